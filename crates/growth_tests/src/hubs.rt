@@ -69,7 +69,7 @@ const MEET: Script = Script(
 );
 
 // The first state has no event, and main is the one that is ready.
-fn is_first<A: Allocator>(hub: &mut Hub<Asks, A>) -> bool {
+fn is_first<A: Allocator + Copy>(hub: &mut Hub<Asks, A>) -> bool {
     let is_unplayed = hub.trace().is_empty() && hub.end() == None && hub.out() == 0;
     let ready = match hub.take() {
         Some(job) => Some(job.who()),
@@ -214,19 +214,19 @@ impl Growing for Row {
 }
 
 static CALLS: [(Row, u64); 10] = [
-    // The replay's lists, the five boxes and their logs' places in lists that grow twice, who is ready
-    // and who is out.
+    // The replay's lists, the five routines and their logs in lists that grow twice, who is ready and
+    // who is out.
     (Row(Call::New, QUIET), 17),
-    // The requests, and what stands behind them: nobody waits, one does, four do.
-    (Row(Call::Submit, QUIET), 2),
+    // The requests: nobody waits, one does, four do.
+    (Row(Call::Submit, QUIET), 1),
     (Row(Call::Submit, ONE_WAITS), 0),
-    (Row(Call::Submit, FOUR_WAIT), 2),
-    // Who is through, and the trace.
-    (Row(Call::Fire(Happening::Write), MAIN_WRITES), 2),
-    (Row(Call::Fire(Happening::TryLock), MAIN_TRIES), 2),
+    (Row(Call::Submit, FOUR_WAIT), 1),
+    // The trace.
+    (Row(Call::Fire(Happening::Write), MAIN_WRITES), 1),
+    (Row(Call::Fire(Happening::TryLock), MAIN_TRIES), 1),
     // The channel's queue too, and the goroutine's onces.
-    (Row(Call::Fire(Happening::Send), MAIN_SENDS), 3),
-    (Row(Call::Fire(Happening::OnceBegin), MAIN_BEGINS), 3),
+    (Row(Call::Fire(Happening::Send), MAIN_SENDS), 2),
+    (Row(Call::Fire(Happening::OnceBegin), MAIN_BEGINS), 2),
     // Who is ready and who is out, and the trace.
     (Row(Call::Fire(Happening::Write), FIFTH), 3),
     // The trace.

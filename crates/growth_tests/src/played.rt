@@ -105,7 +105,7 @@ pub(crate) fn boxes<A: Allocator>(heap: A, script: Script) -> Option<Vec<Asks, A
 }
 
 /// The job that is ready longest, once it has asked.
-pub(crate) fn asked<A: Allocator>(hub: &mut Hub<Asks, A>) -> Option<Job<Asks, A>> {
+pub(crate) fn asked<A: Allocator + Copy>(hub: &mut Hub<Asks, A>) -> Option<Job<Asks, A>> {
     let mut job = hub.take()?;
     match job.turn() {
         Ok(_) => Some(job),
@@ -113,7 +113,7 @@ pub(crate) fn asked<A: Allocator>(hub: &mut Hub<Asks, A>) -> Option<Job<Asks, A>
     }
 }
 
-fn ask<A: Allocator>(hub: &mut Hub<Asks, A>) -> bool {
+fn ask<A: Allocator + Copy>(hub: &mut Hub<Asks, A>) -> bool {
     match asked(hub) {
         Some(job) => hub.submit(job).is_ok(),
         None => false,

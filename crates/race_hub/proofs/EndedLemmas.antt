@@ -1,28 +1,18 @@
--- Who is through, one step on, and what becomes of a bad request.
+-- Who left, one step on, and what becomes of a bad request.
 use Rattle.std.proofs.Common.{◌≡◌, ◌==◌, ◌||◌, ◌&&◌, not, ℕ, ◌<◌, ◌≤◌, ◌+◌, ◌++◌, Bool, true, false, cond, List, []}
-use Rattle.std.proofs.Common.{◌∷◌, Option, Some, None, refl, sym, ap, ◌∙◌, arith, true≢false, eq-eqb}
+use Rattle.std.proofs.Common.{◌∷◌, Option, Some, None, refl, sym, ap, ◌∙◌, arith, true≢false, eq-eqb, zero, suc, length, subst}
 use Rattle.std.proofs.lemmas.List.{Folds.{find-append, list_any-append}, Elements.filter-append}
 use Rattle.std.specs.{List.{count_by, find, list_any}, Prelude.is_some, Option.option_or}
 use Rattle.race_records.specs.{declared.event.Event.Event, Declarations.DeclsState}
 use Rattle.race_model.{specs.Events.{is_exit, is_fault, has_exited}, proofs.CountSteps.{as_number, has_exited_push}}
-use Rattle.race_requests.specs.declared.request.{Answer.Answer, Ask.Ask, Step.Step, Waiter.Waiter}
+use Rattle.race_requests.specs.declared.request.{Ask.Ask, Waiter.Waiter}
 use Rattle.race_requests.specs.Sound.{asks_to_start, is_sound, is_out_of_turn, is_bad_among}
-use Rattle.race_hub.specs.{Hub.{ParkedState, HubState}, Fires.{is_through, with_step}, Kept.{is_active, has_failed}}
-use Rattle.race_hub.specs.{Kept.{has_left, StandOnce}, Recording.{others_of, HasBadRequest}}
-use Rattle.race_hub.proofs.OnceLemmas.{count_one, count_cons, has_failed_push}
+use Rattle.race_hub.specs.{Hub.HubState, Kept.{is_active, has_failed, has_left, StandOnce, HavePlaces}}
+use Rattle.race_hub.{specs.Recording.{others_of, HasBadRequest}, proofs.OnceLemmas.{count_cons, has_failed_push}}
 
 pub not_not : (b : Bool) → not (not b) ≡ b
 not_not true = refl
 not_not false = refl
-
--- how often g is through
-abbrev pub through_of : ℕ → List (ℕ × List Step) → ℕ
-through_of g ended = count_by (λ (l : ℕ × List Step). l.0 == g) ended
-
-pub through_count : {R : Type 0} (g : ℕ) (w : Waiter) (p : ParkedState R) (told : Option Answer)
-    → through_of g (is_through w p told) ≡ as_number (not (is_some told) && (w.who == g))
-through_count g w p None = count_one (λ (l : ℕ × List Step). l.0 == g) (w.who, with_step w p None)
-through_count g w p (Some answer) = refl
 
 -- who stands in a list hasn't left
 pub standing_stays : (v x f : Bool) (n : ℕ) → n ≡ cond ((v && not x) && not f) 1 0 → 0 < n → (x || f) ≡ false
@@ -77,6 +67,88 @@ not_found g (w ∷ waiting) none =
     let parts = count_cons (λ (w : Waiter). w.who == g) w waiting in
     let here : (w.who == g) ≡ false = kept_by (w.who == g) (omega (arith, parts, none)) in
     ap (λ b. cond b (Some w) (find (λ (w : Waiter). w.who == g) waiting)) here ∙ not_found g waiting (omega (arith, parts, none))
+
+others_by : (g : ℕ) (w : Waiter) (ws : List Waiter) (b : Bool) → (w.who == g) ≡ b → others_of g (w ∷ ws) ≡ cond (not b) (w ∷ others_of g ws) (others_of g ws)
+others_by g w ws b is = ap (λ b. cond (not b) (w ∷ others_of g ws) (others_of g ws)) is
+
+others_len : (g : ℕ) (ws : List Waiter) → length (others_of g ws) + count_by (λ (w : Waiter). w.who == g) ws ≡ length ws
+others_len g [] = refl
+others_len g (w ∷ ws) = by (others_len g ws) (w.who == g) refl
+  where
+    by : length (others_of g ws) + count_by (λ (w : Waiter). w.who == g) ws ≡ length ws → (b : Bool) → (w.who == g) ≡ b
+        → length (others_of g (w ∷ ws)) + count_by (λ (w : Waiter). w.who == g) (w ∷ ws) ≡ length (w ∷ ws)
+    by rest true is =
+        let sum = count_cons (λ (w : Waiter). w.who == g) w ws in
+        let one = ap as_number is in
+        let len = ap length (others_by g w ws true is) in
+        omega (arith, sum, one, len, rest)
+    by rest false is =
+        let sum = count_cons (λ (w : Waiter). w.who == g) w ws in
+        let one = ap as_number is in
+        let len = ap length (others_by g w ws false is) in
+        omega (arith, sum, one, len, rest)
+
+others_fewer : (k g : ℕ) (ws : List Waiter)
+    → (count_by (λ (w : Waiter). w.who == k) (others_of g ws) ≤ count_by (λ (w : Waiter). w.who == k) ws) × (count_by (λ (w : Waiter). w.who == g) (others_of g ws) ≡ 0)
+others_fewer k g [] = (omega arith, refl)
+others_fewer k g (w ∷ ws) = by (others_fewer k g ws).0 (others_fewer k g ws).1 (w.who == g) refl
+  where
+    by : count_by (λ (w : Waiter). w.who == k) (others_of g ws) ≤ count_by (λ (w : Waiter). w.who == k) ws
+        → count_by (λ (w : Waiter). w.who == g) (others_of g ws) ≡ 0 → (b : Bool) → (w.who == g) ≡ b
+        → (count_by (λ (w : Waiter). w.who == k) (others_of g (w ∷ ws)) ≤ count_by (λ (w : Waiter). w.who == k) (w ∷ ws))
+        × (count_by (λ (w : Waiter). w.who == g) (others_of g (w ∷ ws)) ≡ 0)
+    by rest none true is =
+        let sum = count_cons (λ (w : Waiter). w.who == k) w ws in
+        let same = ap (count_by (λ (w : Waiter). w.who == k)) (others_by g w ws true is) in
+        let own = ap (count_by (λ (w : Waiter). w.who == g)) (others_by g w ws true is) in
+        (omega (arith, sum, same, rest), omega (arith, own, none))
+    by rest none false is =
+        let sum = count_cons (λ (w : Waiter). w.who == k) w ws in
+        let more = count_cons (λ (w : Waiter). w.who == k) w (others_of g ws) in
+        let mine = count_cons (λ (w : Waiter). w.who == g) w (others_of g ws) in
+        let zero = ap as_number is in
+        let same = ap (count_by (λ (w : Waiter). w.who == k)) (others_by g w ws false is) in
+        let own = ap (count_by (λ (w : Waiter). w.who == g)) (others_by g w ws false is) in
+        (omega (arith, sum, more, same, rest), omega (arith, own, mine, zero, none))
+
+-- where each waits once at most, and is one of so many, no more wait
+few_by : (n : ℕ) (ws : List Waiter) → ((g : ℕ) → count_by (λ (w : Waiter). w.who == g) ws ≤ 1)
+    → ((g : ℕ) → 0 < count_by (λ (w : Waiter). w.who == g) ws → g < n) → length ws ≤ n
+few_by zero [] once below = omega arith
+few_by zero (w ∷ ws) once below =
+    let sum = count_cons (λ (v : Waiter). v.who == w.who) w ws in
+    let one : as_number (w.who == w.who) ≡ 1 = ap as_number (eq-eqb w.who w.who refl) in
+    let less = below w.who (omega (arith, sum, one)) in
+    absurd (omega (arith, less))
+few_by (suc n) ws once below =
+    let len = others_len n ws in
+    let one = once n in
+    let rest = few_by n (others_of n ws) each below_n in
+    omega (arith, len, one, rest)
+  where
+    each : (g : ℕ) → count_by (λ (w : Waiter). w.who == g) (others_of n ws) ≤ 1
+    each g = let fewer = (others_fewer g n ws).0 in let one = once g in omega (arith, fewer, one)
+
+    below_n : (g : ℕ) → 0 < count_by (λ (w : Waiter). w.who == g) (others_of n ws) → g < n
+    below_n g some =
+        let fewer = (others_fewer g n ws).0 in
+        let less = below g (omega (arith, fewer, some)) in
+        let other : g ≡ n → ⊥ = λ same.
+        let none = (others_fewer n n ws).1 in
+        let there = subst (λ k. 0 < count_by (λ (w : Waiter). w.who == k) (others_of n ws)) same some in
+        absurd (omega (arith, none, there)) in
+        omega (arith, less, other)
+
+-- no more requests wait than there are goroutines
+pub few_wait : {R : Type 0} (h : HubState R) → StandOnce h → HavePlaces h → length h.waiting ≤ length h.routines
+few_wait h once places =
+    few_by (length h.routines) h.waiting
+    (λ g. let all = once g in let one = at_most (is_active g h.events) in omega (arith, all, one))
+    (λ g some. places g (omega (arith, some)))
+  where
+    at_most : (b : Bool) → cond b 1 0 ≤ 1
+    at_most true = omega arith
+    at_most false = omega arith
 
 or_stays : (a b c d : Bool) → c ≡ (b || d) → (a || b) ≡ true → (a || c) ≡ true
 or_stays true b c d more is = refl

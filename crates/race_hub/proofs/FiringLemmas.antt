@@ -1,6 +1,6 @@
 -- What the hub owes to a firing, and what its choice says of it.
 use Rattle.std.proofs.Common.{◌≡◌, ◌==◌, ◌||◌, ◌&&◌, ℕ, ◌<◌, ◌%◌, nat_lt, Bool, true, false, List, [], length, All}
-use Rattle.std.proofs.Common.{IsTrue, Option, Some, None, IsNone, refl, sym, ap, ◌∙◌, subst, arith, slice_get}
+use Rattle.std.proofs.Common.{IsTrue, Option, Some, None, IsNone, refl, sym, ap, ◌∙◌, subst, arith, slice_get, eq-eqb}
 use Rattle.std.proofs.lemmas.Bool.Decides.{nat_tests}
 use Rattle.race_records.specs.declared.event.{Event.Event, Op.{Op, TheVariants.{Go, Exit, Read, Write, Send, Recv}}}
 use Rattle.race_records.specs.declared.event.Op.TheVariants.{Meet, RecvClosed, Close, Lock, Unlock, RLock, RUnlock}
@@ -8,34 +8,18 @@ use Rattle.race_records.specs.declared.event.Op.TheVariants.{TryLock, TryRLock, 
 use Rattle.race_records.specs.declared.{event.Op.TheVariants.{Fault, Default}, kind.Kind.Kind}
 use Rattle.race_records.specs.{Declarations.{DeclsState, capacity_of, count_of}, Events.{fits, is_in_range}}
 use Rattle.race_records.specs.Events.{is_right_kind, op_fits}
-use Rattle.race_model.{specs.{State.started, Legal.{broken, rules}}, proofs.ChannelOrder.rules_kept}
+use Rattle.race_model.specs.{Events.starts, Legal.broken}
 use Rattle.race_requests.specs.{declared.choice.Choice.Choice, Choices.event_of, Search.picked, Sound.is_sound}
 use Rattle.race_requests.proofs.ChoiceLemmas.{some_is, none_picked, IsPossible, listed_is_possible}
-use Rattle.race_hub.specs.{declared.firing.Firing.Firing, Hub.{HubState, choices_of}, Holds.HaveBoxes}
-use Rattle.race_hub.specs.{Fires.{started_by, HasBox}, Firing.{HasRows, HasSomeRows, IsFiring}}
-use Rattle.race_hub.proofs.{ChoiceRows.rows_of, FitLemmas.choice_fits}
-
--- what a legal start starts: not main, and whom no Go started
-pub go_kept : (caps : ℕ → ℕ) (past : List Event) (e : Event) (h : ℕ) → broken caps past e ≡ None → e.op ≡ Go h → (h == 0 || started h past) ≡ false
-go_kept caps past e h legal is =
-    rules_kept (rules caps past (record { who = e.who; op = Go h; place = e.place; place2 = e.place2 })) 2 (3, h == 0 || started h past)
-    (ap (λ op. broken caps past (record { who = e.who; op = op; place = e.place; place2 = e.place2 })) (sym is) ∙ legal) refl
-
-pub both_false : (a b : Bool) → (a || b) ≡ false → (a ≡ false) × (b ≡ false)
-both_false true b is = absurd cc
-both_false false b is = (refl, is)
-
-pub both_true : (a b : Bool) → (a && b) ≡ true → (a ≡ true) × (b ≡ true)
-both_true true b is = (refl, is)
-both_true false b is = absurd cc
+use Rattle.race_hub.specs.{declared.firing.Firing.Firing, Hub.{HubState, choices_of}, Kept.IsKept}
+use Rattle.race_hub.specs.{Fires.{started_by, HasRoutine}, Firing.{HasRows, HasSomeRows, IsFiring}}
+use Rattle.race_hub.proofs.{ChoiceRows.rows_of, FitLemmas.choice_fits, OnceLemmas.started_fresh, KeptLemmas.fresh_routine}
+use Rattle.race_hub.proofs.TableLemmas.{both_true}
 
 second : (a b c d : Bool) → (a && b && c && d) ≡ true → b ≡ true
 second true true c d is = refl
 second true false c d is = absurd cc
 second false b c d is = absurd cc
-
-positive : (n : ℕ) → (n == 0) ≡ false → 0 < n
-positive n is = grind (arith, nat_tests)
 
 pub below : (m n : ℕ) → nat_lt m n ≡ true → m < n
 below m n is = grind (arith, nat_tests)
@@ -51,33 +35,34 @@ go_in_range decls e h is goes =
     below h _ (both_true _ true (subst (λ op. op_fits decls.declarations op ≡ true) goes (op_is_in_range_by decls e is))).0
 
 module _ {R : Type 0} (h : HubState R) where
-  -- whom a legal event that fits starts has its box
-  box_of : (e : Event) (op : Op) → e.op ≡ op → HaveBoxes h → length h.unstarted ≡ count_of Kind.Goroutine h.decls.declarations → IsTrue (fits h.decls e)
-      → broken (capacity_of h.decls.declarations) h.events e ≡ None → HasBox h.unstarted (started_by op)
-  box_of e (Go g) is boxes count fit legal =
-      let free = both_false (g == 0) (started g h.events) (go_kept (capacity_of h.decls.declarations) h.events e g legal is) in
+  -- whom a legal event that fits starts has its routine
+  routine_of : (e : Event) (op : Op) → e.op ≡ op → IsKept h → length h.routines ≡ count_of Kind.Goroutine h.decls.declarations
+      → IsTrue (fits h.decls e) → broken (capacity_of h.decls.declarations) h.events e ≡ None → HasRoutine h.routines (started_by op)
+  routine_of e (Go g) is kept count fit legal =
+      let starts : starts g e.op ≡ true = ap (starts g) is ∙ eq-eqb g g refl in
+      let fresh = started_fresh (capacity_of h.decls.declarations) h.events e g kept.legal legal starts in
       let less = go_in_range h.decls e g fit is in
-      boxes g (positive g free.0) (subst (λ n. g < n) (sym count) less) free.1
-  box_of e Exit is boxes count fit legal = tt
-  box_of e (Read x v) is boxes count fit legal = tt
-  box_of e (Write x v) is boxes count fit legal = tt
-  box_of e (Send c v) is boxes count fit legal = tt
-  box_of e (Recv c v) is boxes count fit legal = tt
-  box_of e (Meet r c v) is boxes count fit legal = tt
-  box_of e (RecvClosed c) is boxes count fit legal = tt
-  box_of e (Close c) is boxes count fit legal = tt
-  box_of e (Default cases) is boxes count fit legal = tt
-  box_of e (Lock l) is boxes count fit legal = tt
-  box_of e (Unlock l) is boxes count fit legal = tt
-  box_of e (RLock l) is boxes count fit legal = tt
-  box_of e (RUnlock l) is boxes count fit legal = tt
-  box_of e (TryLock l) is boxes count fit legal = tt
-  box_of e (TryRLock l) is boxes count fit legal = tt
-  box_of e (TryFail l) is boxes count fit legal = tt
-  box_of e (OnceBegin o) is boxes count fit legal = tt
-  box_of e (OnceEnd o) is boxes count fit legal = tt
-  box_of e (OnceDone o) is boxes count fit legal = tt
-  box_of e (Fault cause) is boxes count fit legal = tt
+      fresh_routine h g kept (subst (λ n. g < n) (sym count) less) fresh.main fresh.exited fresh.failed
+  routine_of e Exit is kept count fit legal = tt
+  routine_of e (Read x v) is kept count fit legal = tt
+  routine_of e (Write x v) is kept count fit legal = tt
+  routine_of e (Send c v) is kept count fit legal = tt
+  routine_of e (Recv c v) is kept count fit legal = tt
+  routine_of e (Meet r c v) is kept count fit legal = tt
+  routine_of e (RecvClosed c) is kept count fit legal = tt
+  routine_of e (Close c) is kept count fit legal = tt
+  routine_of e (Default cases) is kept count fit legal = tt
+  routine_of e (Lock l) is kept count fit legal = tt
+  routine_of e (Unlock l) is kept count fit legal = tt
+  routine_of e (RLock l) is kept count fit legal = tt
+  routine_of e (RUnlock l) is kept count fit legal = tt
+  routine_of e (TryLock l) is kept count fit legal = tt
+  routine_of e (TryRLock l) is kept count fit legal = tt
+  routine_of e (TryFail l) is kept count fit legal = tt
+  routine_of e (OnceBegin o) is kept count fit legal = tt
+  routine_of e (OnceEnd o) is kept count fit legal = tt
+  routine_of e (OnceDone o) is kept count fit legal = tt
+  routine_of e (Fault cause) is kept count fit legal = tt
 
   -- the picked choice is possible
   pub picked_is_possible : (pick : ℕ) (t : Choice) → picked pick (choices_of h) ≡ Some t → IsPossible (capacity_of h.decls.declarations) h.events h.waiting t
@@ -99,13 +84,13 @@ module _ {R : Type 0} (h : HubState R) where
 
   pub picked_firing : (pick : ℕ) (f : Firing) → picked pick (choices_of h) ≡ Some f.choice → event_of h.events h.waiting f.choice ≡ Some f.event
       → HasRows h.waiting f.choice f.event f.told f.partner
-      → All (λ w. IsTrue (is_sound h.decls w)) h.waiting → HaveBoxes h → length h.unstarted ≡ count_of Kind.Goroutine h.decls.declarations → IsFiring h f
-  picked_firing pick f is makes rows sound boxes count =
+      → All (λ w. IsTrue (is_sound h.decls w)) h.waiting → IsKept h → length h.routines ≡ count_of Kind.Goroutine h.decls.declarations → IsFiring h f
+  picked_firing pick f is makes rows sound kept count =
       let p = picked_is_possible pick f.choice is in
       let same = made_event f.choice f.event p makes in
       let legal = subst (λ e. broken (capacity_of h.decls.declarations) h.events e ≡ None) same p.legal in
       let fit = choice_fits h.decls h.events h.waiting f.choice f.event sound makes in
-      record { rows = rows; makes = makes; legal = legal; fits = fit; box = box_of f.event f.event.op refl boxes count fit legal }
+      record { rows = rows; makes = makes; legal = legal; fits = fit; routine = routine_of f.event f.event.op refl kept count fit legal }
 
 -- from nothing alone nothing is picked
 pub none_by : {X : Type 0} (found : Option X) (xs : List X) (pick : ℕ) → found ≡ slice_get xs (pick % length xs) → IsNone found → xs ≡ []

@@ -1,14 +1,13 @@
 -- Small firings are computed, and a wrong state is none.
 use Rattle.std.proofs.Common.{◌≡◌, ℕ, ◌++◌, List, [], ◌∷◌, length, Option, Some, None, slice_get, refl, sym, ap, ◌∙◌}
 use Rattle.std.proofs.Common.{subst, arith, length-append}
-use Rattle.race_records.specs.{Declarations.capacity_of, declared.event.Op.{Op, TheVariants.Go}}
-use Rattle.race_model.proofs.LegalSteps.{legal_none}
+use Rattle.race_records.specs.declared.event.Op.{Op, TheVariants.Go}
 use Rattle.race_requests.specs.declared.{choice.Choice.Choice, request.{Answer.Answer, Ask.Ask, Waiter.Waiter}}
 use Rattle.race_requests.specs.{Choices.choice, Rows.waits, Table.{IsRow, done_by, told_by}}
 use Rattle.race_requests.proofs.{RowLemmas.{by_first, wanted}, ChoiceLemmas.some_is}
-use Rattle.race_hub.specs.{Job.JobState, Hub.stop_by, Fires.{goes_on, partner_goes_on, partner_of, born_of, started_by}}
-use Rattle.race_hub.specs.Firings.{before_go, went, met, behind, AGoIsFired, AMeetIsFired, OpeningIsKept}
-use Rattle.race_hub.{specs.Firings.{AFiringIsAnEvent, AStarterIsReadyFirst}, proofs.OpeningLemmas.opening_once}
+use Rattle.race_hub.specs.{Hub.stop_by, Fires.{goes_on, partner_of, begins, started_by}}
+use Rattle.race_hub.specs.Firings.{before_go, went, met, AGoIsFired, AMeetIsFired, OpeningIsKept}
+use Rattle.race_hub.{specs.Firings.{AFiringIsAnEvent, AStarterIsReadyFirst}, proofs.OpeningLemmas.opening_kept}
 
 pub go_is_fired : AGoIsFired
 unfolding stop_by
@@ -18,23 +17,20 @@ go_is_fired = record {
   chosen = refl;
   fires = record {
     w = waits 0 (Ask.Go 1);
-    p = behind 10;
     e = went;
     told = Some Answer.Unit;
     partner_told = None;
     asks = refl;
-    behind = refl;
     makes = refl;
     legal = refl;
     row = refl;
     partner_row = refl;
-    box = (11, refl);
+    routine = (11, refl);
     events = refl;
     waiting = refl;
-    parked = refl;
     ready = refl;
-    unstarted = refl;
-    ended = refl;
+    routines = refl;
+    logs = refl;
     same = (refl, refl, refl, refl);
   };
 }
@@ -47,23 +43,20 @@ meet_is_fired = record {
   chosen = refl;
   fires = record {
     w = waits 0 (Ask.Send (Some 0) 9);
-    p = behind 10;
     e = met;
     told = Some Answer.Unit;
     partner_told = Some (Answer.Value 9);
     asks = refl;
-    behind = refl;
     makes = refl;
     legal = refl;
     row = refl;
     partner_row = ((Answer.Value 9, refl), refl);
-    box = tt;
+    routine = tt;
     events = refl;
     waiting = refl;
-    parked = refl;
     ready = refl;
-    unstarted = refl;
-    ended = refl;
+    routines = refl;
+    logs = refl;
     same = (refl, refl, refl, refl);
   };
 }
@@ -74,17 +67,12 @@ firing_is_an_event R pick h new same fired =
     let is = ap length (sym same ∙ fired.fires.events) in
     absurd (omega (arith, more, is))
 
-pub opening_kept : (R : Type 0) → OpeningIsKept R
-opening_kept R decls limit main others = record {
-  legal = legal_none (capacity_of decls.declarations);
-  limited = omega arith;
-  once = opening_once decls limit main others;
-  ends = λ g. refl;
-}
+pub opening_is_kept : (R : Type 0) → OpeningIsKept R
+opening_is_kept R decls limit main others = opening_kept decls limit main others
 
-abbrev first_who : List (JobState ℕ) → ℕ
+abbrev first_who : List (ℕ × Answer) → ℕ
 first_who [] = 0
-first_who (j ∷ jobs) = j.who
+first_who (r ∷ ready) = r.0
 
 -- who starts another is told that it did
 start_told : (h : ℕ) (op : Op) (told : Option Answer) → told_by (Ask.Go h) op ≡ Some told → told ≡ Some Answer.Unit
@@ -98,9 +86,8 @@ starter_is_first fired =
     let asks : waits 0 (Ask.Go 1) ≡ f.w = some_is (subst (λ (t : Choice). slice_get before_go.waiting t.place ≡ Some f.w) (sym chosen) f.asks) in
     let row = subst (λ (w : Waiter). IsRow w.asked.ask fired.t.offer (done_by f.w.who f.e.op) f.told) (sym asks) f.row in
     let ready : 1 ≡ f.w.who = ap first_who f.ready
-    ∙ ap (λ (told : Option Answer). first_who (before_go.ready ++ goes_on f.w f.p told
-    ++ partner_goes_on (partner_of fired.t before_go.waiting) (partner_of fired.t before_go.parked) f.partner_told
-    ++ born_of before_go.unstarted (started_by f.e.op)))
+    ∙ ap (λ (told : Option Answer). first_who (before_go.ready ++ goes_on (Some f.w) told
+    ++ goes_on (partner_of fired.t before_go.waiting) f.partner_told ++ begins (started_by f.e.op)))
     (start_told 1 (done_by f.w.who f.e.op) f.told (by_first fired.t.offer (told_by (Ask.Go 1) (done_by f.w.who f.e.op)) f.told row).1) in
     let who : 0 ≡ f.w.who = ap (λ (w : Waiter). w.who) asks in
     absurd (omega (arith, ready, who))

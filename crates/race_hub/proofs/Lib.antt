@@ -7,9 +7,12 @@ pub mod PerformLemmas
 pub mod SubmitLemmas
 pub mod AmongLemmas
 pub mod OpeningLemmas
+pub mod TableLemmas
 pub mod OnceLemmas
 pub mod EndedLemmas
+pub mod KeptLemmas
 pub mod TrackLemmas
+pub mod LogsLemmas
 pub mod FinishLemmas
 pub mod FiringsLemmas
 pub mod RunLemmas

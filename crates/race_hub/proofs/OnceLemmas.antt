@@ -20,9 +20,8 @@ use Rattle.race_requests.specs.{declared.request.Waiter.Waiter, Choices.{op_of, 
 use Rattle.race_requests.specs.{Choices.{meet_event, event_of}, Table.{IsRow, done_by, offers_of, told_if, told_sender}}
 use Rattle.race_requests.specs.Table.{told_receiver, told_closer, told_trier, told_rtrier, told_by, told_plain, chosen}
 use Rattle.race_requests.proofs.{RowLemmas.{IsByOffer, IsByDefault, by_either, by_first}, ChoiceLemmas.some_is}
-use Rattle.race_hub.specs.{Job.{JobState, begun}, Hub.ParkedState, Fires.{without, partner_of, answered, goes_on}}
-use Rattle.race_hub.specs.Fires.{partner_goes_on, IsPartnerRow, started_by, begins, born_of, HasBox}
-use Rattle.race_hub.{specs.Kept.{has_failed, is_active}, proofs.FiringLemmas.{both_true, both_false, go_kept}}
+use Rattle.race_hub.specs.Fires.{without, partner_of, goes_on, IsPartnerRow, started_by, begins}
+use Rattle.race_hub.{specs.Kept.{has_failed, is_active}, proofs.TableLemmas.{same_number, both_true, both_false}}
 
 -- Counts by a test.
 
@@ -220,8 +219,11 @@ event_who past waiting t w e is makes = by (t.partner == 0) (slice_get waiting (
 
 -- Who is active.
 
-same_number : (m n : ℕ) → (m == n) ≡ true → m ≡ n
-same_number m n is = grind (arith, nat_tests)
+-- what a legal start starts: not main, and whom no Go started
+pub go_kept : (caps : ℕ → ℕ) (past : List Event) (e : Event) (h : ℕ) → broken caps past e ≡ None → e.op ≡ Go h → (h == 0 || started h past) ≡ false
+go_kept caps past e h legal is =
+    rules_kept (rules caps past (record { who = e.who; op = Go h; place = e.place; place2 = e.place2 })) 2 (3, h == 0 || started h past)
+    (ap (λ op. broken caps past (record { who = e.who; op = op; place = e.place; place2 = e.place2 })) (sym is) ∙ legal) refl
 
 -- where no Go started it, who isn't main hasn't exited
 pub unstarted_stays : (caps : ℕ → ℕ) (past : List Event) (g : ℕ) → IsLegal caps past → (g == 0) ≡ false → started g past ≡ false → has_exited g past ≡ false
@@ -350,7 +352,7 @@ starts_is g (OnceEnd o) = refl
 starts_is g (OnceDone o) = refl
 starts_is g (Fault cause) = refl
 
-starts_go : (g : ℕ) (op : Op) → starts g op ≡ true → op ≡ Go g
+pub starts_go : (g : ℕ) (op : Op) → starts g op ≡ true → op ≡ Go g
 starts_go g (Go k) is = ap Go (same_number k g is)
 starts_go g Exit is = absurd cc
 starts_go g (Read x v) is = absurd cc
@@ -398,43 +400,30 @@ asker_balance false false = refl
 abbrev pub is_waiter : ℕ → Waiter → Bool
 is_waiter g w = w.who == g
 
-module _ {R : Type 0} (g : ℕ) where
-  -- how often g stands among jobs
-  abbrev pub jobs_of : List (JobState R) → ℕ
-  jobs_of jobs = count_by (λ (j : JobState R). j.who == g) jobs
+module _ (g : ℕ) where
+  -- how often g is ready
+  abbrev pub ready_of : List (ℕ × Answer) → ℕ
+  ready_of ready = count_by (λ (r : ℕ × Answer). r.0 == g) ready
 
-  pub goes_count : (w : Waiter) (p : ParkedState R) (told : Option Answer) → jobs_of (goes_on w p told) ≡ as_number (is_some told && (w.who == g))
-  goes_count w p None = refl
-  goes_count w p (Some answer) = count_one (λ (j : JobState R). j.who == g) (answered w p answer)
+  pub goes_count : (w : Waiter) (told : Option Answer) → ready_of (goes_on (Some w) told) ≡ as_number (is_some told && (w.who == g))
+  goes_count w None = refl
+  goes_count w (Some answer) = count_one (λ (r : ℕ × Answer). r.0 == g) (w.who, answer)
 
-  pub partner_count : (t : Choice) (ws : List Waiter) (ps : List (ParkedState R)) (way : ℕ) (op : Op) (told : Option Answer) → length ps ≡ length ws
-      → t.partner ≤ length ws → IsPartnerRow (partner_of t ws) way op told
-      → jobs_of (partner_goes_on (partner_of t ws) (partner_of t ps) told) ≡ passes (is_waiter g) (partner_of t ws)
-  partner_count t ws ps way op told same partner row =
-      by (t.partner == 0) (slice_get ws (t.partner - 1)) (slice_get ps (t.partner - 1)) refl
-      (λ less. at_below ws (t.partner - 1) less) (λ less. at_below ps (t.partner - 1) (subst (λ n. t.partner - 1 < n) (sym same) less)) row
-    where
-      by : (alone : Bool) (o : Option Waiter) (q : Option (ParkedState R)) → (t.partner == 0) ≡ alone
-          → (t.partner - 1 < length ws → (w : Waiter) × (o ≡ Some w)) → (t.partner - 1 < length ws → (p : ParkedState R) × (q ≡ Some p))
-          → IsPartnerRow (if alone then None else o) way op told
-          → jobs_of (partner_goes_on (if alone then None else o) (if alone then None else q) told) ≡ passes (is_waiter g) (if alone then None else o)
-      by true o q none w p row = refl
-      by false None q none w p row = let some : 0 < t.partner = grind (arith, nat_tests) in absurd (none-some _ (w (omega (arith, some, partner))).1)
-      by false (Some w) None none s p row = let some : 0 < t.partner = grind (arith, nat_tests) in absurd (none-some _ (p (omega (arith, some, partner))).1)
-      by false (Some w) (Some p) none s q row = goes_count w p told ∙ ap (λ (o : Option Answer). as_number (is_some o && (w.who == g))) row.0.1
+  pub partner_count : (w : Option Waiter) (way : ℕ) (op : Op) (told : Option Answer) → IsPartnerRow w way op told
+      → ready_of (goes_on w told) ≡ passes (is_waiter g) w
+  partner_count None way op told row = refl
+  partner_count (Some w) way op told row = goes_count w told ∙ ap (λ (o : Option Answer). as_number (is_some o && (w.who == g))) row.0.1
 
-  begun_by : (boxes : List (Option R)) (started : Option ℕ) → HasBox boxes started
-      → jobs_of (born_of boxes started) ≡ as_number (elim started [ None ↦ false | Some h ↦ h == g ])
-  begun_by boxes None box = refl
-  begun_by boxes (Some h) box =
-      ap (λ (o : Option (Option R)). jobs_of (begins h o)) box.1 ∙ count_one (λ (j : JobState R). j.who == g) (begun h box.0)
+  begun_by : (started : Option ℕ) → ready_of (begins started) ≡ as_number (elim started [ None ↦ false | Some h ↦ h == g ])
+  begun_by None = refl
+  begun_by (Some h) = count_one (λ (r : ℕ × Answer). r.0 == g) (h, Answer.Begin)
 
-  pub begun_count : (boxes : List (Option R)) (op : Op) → HasBox boxes (started_by op) → jobs_of (born_of boxes (started_by op)) ≡ as_number (starts g op)
-  begun_count boxes op box = begun_by boxes (started_by op) box ∙ sym (starts_is g op)
+  pub begun_count : (op : Op) → ready_of (begins (started_by op)) ≡ as_number (starts g op)
+  begun_count op = begun_by (started_by op) ∙ sym (starts_is g op)
 
-  pub four_counts : (a b c d : List (JobState R)) → jobs_of (a ++ b ++ c ++ d) ≡ jobs_of a + jobs_of b + jobs_of c + jobs_of d
+  pub four_counts : (a b c d : List (ℕ × Answer)) → ready_of (a ++ b ++ c ++ d) ≡ ready_of a + ready_of b + ready_of c + ready_of d
   four_counts a b c d =
-      let p = count_append (λ (j : JobState R). j.who == g) (a ++ b ++ c) d in
-      let q = count_append (λ (j : JobState R). j.who == g) (a ++ b) c in
-      let r = count_append (λ (j : JobState R). j.who == g) a b in
+      let p = count_append (λ (r : ℕ × Answer). r.0 == g) (a ++ b ++ c) d in
+      let q = count_append (λ (r : ℕ × Answer). r.0 == g) (a ++ b) c in
+      let r = count_append (λ (r : ℕ × Answer). r.0 == g) a b in
       omega (arith, p, q, r)

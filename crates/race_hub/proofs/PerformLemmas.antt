@@ -2,33 +2,23 @@
 use Rattle.std.proofs.Common.{◌≡◌, ◌≢◌, ◌==◌, ◌⊎◌, ℕ, zero, suc, ◌<◌, ◌≤◌, ◌+◌, ◌-◌, ◌++◌, nat_lt, Bool, true, false}
 use Rattle.std.proofs.Common.{if◌then◌else◌, List, [], ◌∷◌, length, take, drop, All, IsTrue, IsOk, Result, Err, IfSome}
 use Rattle.std.proofs.Common.{Option, Some, None, refl, sym, ap, ◌∙◌, subst, inl, inr, arith, not, ◌&&◌, nat_le}
-use Rattle.std.proofs.Common.{slice_get, slice_set, get_or, length-append, eq-eqb, true≢false, ◌||◌}
-use Rattle.std.proofs.lemmas.{List.{length-set, Sums.sum_by-set, Edits.length-remove}, Bool.Decides.nat_tests}
-use Rattle.std.proofs.lemmas.Option.{none-some, slice_get_within, slice_get-get_or, get_or_from_slice_get}
-use Rattle.std.specs.{List.{remove, count_by}, Prelude.{is_some, cond}}
-use Rattle.race_records.specs.declared.event.{Event.Event, Op.{Op, TheVariants.{Go, Exit, Read, Write, Send, Recv}}}
-use Rattle.race_records.specs.declared.event.Op.TheVariants.{Meet, RecvClosed, Close, Lock, Unlock, RLock, RUnlock}
-use Rattle.race_records.specs.declared.event.Op.TheVariants.{TryLock, TryRLock, TryFail, OnceBegin, OnceEnd, OnceDone}
-use Rattle.race_records.specs.declared.{event.Op.TheVariants.{Fault, Default}, kind.Kind.Kind}
-use Rattle.race_records.specs.declared.trace.PushFault.TheVariants.{BadNumber, WrongKind, Full}
-use Rattle.race_records.specs.declared.trace.TheConstants.{MAX_EVENTS}
-use Rattle.race_records.specs.{Declarations.{DeclsState, capacity_of, counts_of}, Events.{TraceState, fits, push_fault}}
+use Rattle.std.proofs.Common.{slice_get, get_or, eq-eqb, true≢false}
+use Rattle.std.proofs.lemmas.{Bool.Decides.nat_tests, Option.{none-some, slice_get-get_or}}
+use Rattle.std.specs.List.{remove, count_by}
+use Rattle.race_records.specs.declared.{event.{Event.Event, Op.Op}, kind.Kind.Kind}
+use Rattle.race_records.specs.declared.trace.{PushFault.TheVariants.{BadNumber, WrongKind, Full}, TheConstants.MAX_EVENTS}
+use Rattle.race_records.specs.{Declarations.{DeclsState, counts_of}, Events.{TraceState, fits, push_fault}}
 use Rattle.race_records.specs.Events.{is_in_range, is_right_kind}
-use Rattle.race_model.specs.{Events.{starts, is_exit, is_fault, has_exited}, State.started, Legal.{broken, IsLegal}}
-use Rattle.race_model.proofs.{Indexes.take_at_old, CountSteps.{has_push, as_number}}
+use Rattle.race_model.{specs.Events.is_fault, proofs.{Indexes.take_at_old, CountSteps.as_number}}
 use Rattle.race_legal.specs.{ReplayState.{ReplayState, counts_in, IsInRange}, StandsFor.StandsFor}
-use Rattle.race_requests.specs.declared.{choice.Choice.Choice, request.{Waiter.Waiter, Step.Step, Answer.Answer}}
-use Rattle.race_requests.specs.{Choices.event_of, Table.{IsRow, done_by}, Sound.is_sound}
-use Rattle.race_requests.proofs.ChoiceLemmas.{all_at, some_is}
-use Rattle.race_hub.specs.{declared.{ending.End.End, firing.Firing.Firing}, Hub.{ParkedState, HubState, stop_by}}
-use Rattle.race_hub.specs.{Hub.{stop_of, is_last, is_main_exit}, Holds.Holds, Kept.{standing, has_failed, has_left}}
-use Rattle.race_hub.specs.{Kept.{is_active, StandOnce, EndOnce}, Job.JobState, Firing.{IsFiring, HasRows}}
-use Rattle.race_hub.specs.Fires.{without, partner_of, goes_on, is_through, partner_goes_on, started_by, begins, born_of}
-use Rattle.race_hub.{specs.Fires.{boxes_after, HasBox}, proofs.OnceLemmas.{leaves, told_leaves, event_who}}
-use Rattle.race_hub.proofs.OnceLemmas.{count_without, jobs_of, goes_count, partner_count, begun_count, four_counts}
-use Rattle.race_hub.proofs.OnceLemmas.{asker_balance, one_step, started_fresh, active_push, count_append}
-use Rattle.race_hub.proofs.EndedLemmas.{through_of, through_count, standing_stays, left_push, not_not}
-use Rattle.race_hub.proofs.{SubmitLemmas.bad_stops, FiringLemmas.{both_true, both_false, below}}
+use Rattle.race_requests.specs.declared.{choice.Choice.Choice, request.{Waiter.Waiter, Answer.Answer}}
+use Rattle.race_requests.{specs.Sound.is_sound, proofs.ChoiceLemmas.all_at}
+use Rattle.race_hub.specs.{declared.ending.End.End, Hub.{HubState, stop_by, stop_of, is_last, is_main_exit}}
+use Rattle.race_hub.specs.{HubHolds.HaveRoom, Holds.Holds, Kept.{standing, is_active, IsKept}}
+use Rattle.race_hub.specs.Fires.{Fires, without, partner_of, is_asker, without_leaver, IsPartnerRow}
+use Rattle.race_hub.proofs.{OnceLemmas.{count_without, passes, is_waiter}, EndedLemmas.kept_by}
+use Rattle.race_hub.proofs.{KeptLemmas.{fired_kept, at_most_one}, SubmitLemmas.bad_stops}
+use Rattle.race_hub.proofs.{TableLemmas.{both_true, leaver_len}, FiringLemmas.below}
 
 -- what is right isn't wrong
 pub not_both : {X E : Type 0} (r : Result X E) (e : E) → IsOk r → r ≡ Err e → ⊥
@@ -124,224 +114,92 @@ all_without P t xs all k d less =
     let old = without_old t xs (get_or (without t xs) k d) (k, slice_get-get_or (without t xs) k d less) in
     all_at P xs old.0 (get_or (without t xs) k d) all old.1
 
--- how many a choice takes out
-abbrev pub parties : Choice → ℕ
-parties t = cond (t.partner == 0) 1 2
+-- Those that take part.
 
-pub length_without : {X : Type 0} (t : Choice) (xs : List X) → t.place < length xs → t.partner ≤ length xs → t.partner ≢ t.place + 1
-    → length (without t xs) + parties t ≡ length xs
-length_without t xs place partner apart = by (t.partner == 0) (nat_lt t.place (t.partner - 1)) refl refl
-  where
-    by : (alone before : Bool) → (t.partner == 0) ≡ alone → nat_lt t.place (t.partner - 1) ≡ before
-        → length (if alone then remove xs t.place else (if before then remove (remove xs (t.partner - 1)) t.place
-        else remove (remove xs t.place) (t.partner - 1)))
-        + cond alone 1 2 ≡ length xs
-    by true before is test = length-remove xs t.place place
-    by false true is test =
-        let some : 0 < t.partner = grind (arith, nat_tests) in
-        let first = length-remove xs (t.partner - 1) (omega (arith, some, partner)) in
-        let less : t.place < t.partner - 1 = grind (arith, nat_tests) in
-        let second = length-remove (remove xs (t.partner - 1)) t.place (omega (arith, first, less, partner)) in
-        omega (arith, first, second)
-    by false false is test =
-        let some : 0 < t.partner = grind (arith, nat_tests) in
-        let first = length-remove xs t.place place in
-        let less : t.partner - 1 ≤ t.place = grind (arith, nat_tests) in
-        let second = length-remove (remove xs t.place) (t.partner - 1) (omega (arith, first, less, some, place, partner, apart)) in
-        omega (arith, first, second)
+module _ {R : Type 0} (h : HubState R) (t : Choice) (w : Waiter) (o : Option Waiter) (asks : slice_get h.waiting t.place ≡ Some w)
+    (second : partner_of t h.waiting ≡ o) (partner : t.partner ≤ length h.waiting) (apart : t.partner ≢ t.place + 1) (kept : IsKept h) where
+  -- all of those of this number that wait, of whom there is one at most
+  waits : (g : ℕ) → count_by (is_waiter g) (without t h.waiting) + as_number (w.who == g) + passes (is_waiter g) o ≡ count_by (is_waiter g) h.waiting
+  waits g =
+      ap (λ o. count_by (is_waiter g) (without t h.waiting) + as_number (w.who == g) + passes (is_waiter g) o) (sym second)
+      ∙ count_without (is_waiter g) t h.waiting w asks partner apart
 
-pub set_other : {X : Type 0} (xs : List X) (k g : ℕ) (y : X) → (k ≡ g → ⊥) → slice_get (slice_set xs k y) g ≡ slice_get xs g
-set_other [] k g y unlike = refl
-set_other (x ∷ xs) zero zero y unlike = absurd (unlike refl)
-set_other (x ∷ xs) zero (suc g) y unlike = refl
-set_other (x ∷ xs) (suc k) zero y unlike = refl
-set_other (x ∷ xs) (suc k) (suc g) y unlike = set_other xs k g y (λ e. unlike (ap suc e))
+  one_waits : (g : ℕ) → count_by (is_waiter g) h.waiting ≤ 1
+  one_waits g =
+      let once = kept.once g in
+      let most = at_most_one (is_active g h.events) in
+      omega (arith, once, most)
 
-module _ {R : Type 0} where
-  pub boxes_len : (boxes : List (Option R)) (started : Option ℕ) → length (boxes_after boxes started) ≡ length boxes
-  boxes_len boxes (Some h) = length-set boxes h None
-  boxes_len boxes None = refl
+  own : (g : ℕ) → as_number (g == g) ≡ 1
+  own g = ap as_number (eq-eqb g g refl)
 
-  boxes_other : (op : Op) (boxes : List (Option R)) (g : ℕ) → starts g op ≡ false → slice_get (boxes_after boxes (started_by op)) g ≡ slice_get boxes g
-  boxes_other (Go k) boxes g not = set_other boxes k g None (λ e. true≢false (sym (eq-eqb k g e) ∙ not))
-  boxes_other Exit boxes g not = refl
-  boxes_other (Read x v) boxes g not = refl
-  boxes_other (Write x v) boxes g not = refl
-  boxes_other (Send c v) boxes g not = refl
-  boxes_other (Recv c v) boxes g not = refl
-  boxes_other (Meet r c v) boxes g not = refl
-  boxes_other (RecvClosed c) boxes g not = refl
-  boxes_other (Close c) boxes g not = refl
-  boxes_other (Default cases) boxes g not = refl
-  boxes_other (Lock l) boxes g not = refl
-  boxes_other (Unlock l) boxes g not = refl
-  boxes_other (RLock l) boxes g not = refl
-  boxes_other (RUnlock l) boxes g not = refl
-  boxes_other (TryLock l) boxes g not = refl
-  boxes_other (TryRLock l) boxes g not = refl
-  boxes_other (TryFail l) boxes g not = refl
-  boxes_other (OnceBegin o) boxes g not = refl
-  boxes_other (OnceEnd o) boxes g not = refl
-  boxes_other (OnceDone o) boxes g not = refl
-  boxes_other (Fault cause) boxes g not = refl
+  asker_waits : 0 < count_by (is_waiter w.who) h.waiting
+  asker_waits = let all = waits w.who in let one = own w.who in omega (arith, all, one)
 
-  -- how many begin are so many boxes fewer
-  born_count : (boxes : List (Option R)) (started : Option ℕ) → HasBox boxes started
-      → length (born_of boxes started) + count_by is_some (boxes_after boxes started) ≡ count_by is_some boxes
-  born_count boxes None box = omega arith
-  born_count boxes (Some h) box =
-      let less = slice_get_within boxes h (Some box.0) box.1 in
-      let there = get_or_from_slice_get boxes h (Some box.0) None box.1 in
-      let sums = sum_by-set (λ o. cond (is_some o) 1 0) boxes h None None less in
-      let one = ap (λ (o : Option R). as_number (is_some o)) there in
-      let born : length (begins h (slice_get boxes h)) ≡ 1 = ap (λ o. length (begins h o)) box.1 in
-      omega (arith, sums, one, born)
+  pub asker_within : w.who < length h.routines
+  asker_within = let some = asker_waits in kept.places w.who (omega (arith, some))
 
-  -- whom the operation starts has a box, so its number is one
-  pub started_fits : (boxes : List (Option R)) (started : Option ℕ) → HasBox boxes started → IfSome started (λ g. g < length boxes)
-  started_fits boxes (Some h) box = slice_get_within boxes h (Some box.0) box.1
-  started_fits boxes None box = tt
+  pub asker_room : (rooms : List Bool) → HaveRoom h.waiting rooms → slice_get rooms w.who ≡ Some true
+  asker_room rooms room = room w.who asker_waits
 
-  goes_len : (w : Waiter) (p : ParkedState R) (told : Option Answer) → length (goes_on w p told) ≤ 1
-  goes_len w p None = omega arith
-  goes_len w p (Some a) = omega arith
+  other_counts : (r : Waiter) → o ≡ Some r → count_by (is_waiter r.who) (without t h.waiting) + as_number (w.who == r.who) + 1
+      ≡ count_by (is_waiter r.who) h.waiting
+  other_counts r is =
+      let all = waits r.who in
+      let one = ap (passes (is_waiter r.who)) is ∙ own r.who in
+      omega (arith, all, one)
 
-  partner_len : (t : Choice) (ws : List Waiter) (ps : List (ParkedState R)) (told : Option Answer)
-      → length (partner_goes_on (partner_of t ws) (partner_of t ps) told) + 1 ≤ parties t
-  partner_len t ws ps told = by (t.partner == 0) (slice_get ws (t.partner - 1)) (slice_get ps (t.partner - 1))
+  pub other_within : (told : Option Answer) → IfSome o (λ r. r.who < length (without_leaver (Some w) told h.routines))
+  other_within told = by o refl
     where
-      by : (alone : Bool) (w : Option Waiter) (p : Option (ParkedState R))
-          → length (partner_goes_on (if alone then None else w) (if alone then None else p) told) + 1 ≤ cond alone 1 2
-      by true w p = omega arith
-      by false None p = omega arith
-      by false (Some w) None = omega arith
-      by false (Some w) (Some p) = let one = goes_len w p told in omega (arith, one)
+      by : (p : Option Waiter) → o ≡ p → IfSome p (λ r. r.who < length (without_leaver (Some w) told h.routines))
+      by None is = tt
+      by (Some r) is =
+          let all = other_counts r is in
+          subst (λ n. r.who < n) (sym (leaver_len (Some w) told h.routines)) (kept.places r.who (omega (arith, all)))
 
-  -- the hub with this trace and these lists
-  abbrev pub with_lists : HubState R → DeclsState → List Event → List (JobState R) → List ℕ → List (ℕ × List Step) → HubState R
-  with_lists h decls events ready out ended = record {
-    decls = decls;
-    events = events;
-    limit = h.limit;
-    ready = ready;
-    waiting = h.waiting;
-    parked = h.parked;
-    out = out;
-    unstarted = h.unstarted;
-    ended = ended;
-    bad = h.bad;
-  }
+  pub other_room : (rooms after : List Bool) → HaveRoom h.waiting rooms
+      → ((k : ℕ) → is_asker k (Some w) ≡ false → slice_get after k ≡ slice_get rooms k) → IfSome o (λ r. slice_get after r.who ≡ Some true)
+  other_room rooms after room others = by o refl
+    where
+      by : (p : Option Waiter) → o ≡ p → IfSome p (λ r. slice_get after r.who ≡ Some true)
+      by None is = tt
+      by (Some r) is =
+          let all = other_counts r is in
+          let most = one_waits r.who in
+          others r.who (kept_by (w.who == r.who) (omega (arith, all, most))) ∙ room r.who (omega (arith, all))
 
-  -- where they are its own, it is the hub
-  pub lists_same : (h : HubState R) (decls : DeclsState) (events : List Event) (ready : List (JobState R)) (out : List ℕ) (ended : List (ℕ × List Step))
-      → decls ≡ h.decls → events ≡ h.events → ready ≡ h.ready → out ≡ h.out → ended ≡ h.ended
-      → with_lists h decls events ready out ended ≡ h
-  lists_same h decls events ready out ended a b c d e = λ i. with_lists h (a i) (b i) (c i) (d i) (e i)
+  -- who waits on has its room still
+  pub rest_room : (rooms after last : List Bool) → HaveRoom h.waiting rooms
+      → ((k : ℕ) → is_asker k (Some w) ≡ false → slice_get after k ≡ slice_get rooms k)
+      → ((k : ℕ) → is_asker k o ≡ false → slice_get last k ≡ slice_get after k) → HaveRoom (without t h.waiting) last
+  rest_room rooms after last room first second g some =
+      let all = waits g in
+      let most = one_waits g in
+      second g (other o (omega (arith, all, most, some))) ∙ first g (kept_by (w.who == g) (omega (arith, all, most, some))) ∙ room g (omega (arith, all, some))
+    where
+      other : (p : Option Waiter) → passes (is_waiter g) p ≡ 0 → is_asker g p ≡ false
+      other None none = refl
+      other (Some r) none = kept_by (r.who == g) none
 
-  -- one event more, the requests of the choice answered, and a goroutine begun
-  pub record Moves (old new : HubState R) (f : Firing) : Type 0 where
-    pub w : Waiter
-    pub p : ParkedState R
-    pub asks : slice_get old.waiting f.choice.place ≡ Some w
-    pub decls : new.decls ≡ old.decls
-    pub events : new.events ≡ old.events ++ f.event ∷ []
-    pub limit : new.limit ≡ old.limit
-    pub waiting : new.waiting ≡ without f.choice old.waiting
-    pub parked : new.parked ≡ without f.choice old.parked
-    pub out : new.out ≡ old.out
-    pub ready : new.ready ≡ old.ready ++ goes_on w p f.told ++ partner_goes_on (partner_of f.choice old.waiting) (partner_of f.choice old.parked) f.partner
-        ++ born_of old.unstarted (started_by f.event.op)
-    pub unstarted : new.unstarted ≡ boxes_after old.unstarted (started_by f.event.op)
-    pub ended : new.ended ≡ old.ended ++ is_through w p f.told
-    pub bad : new.bad ≡ old.bad
+-- a partner, which is told an answer, keeps its routine
+pub partner_keeps : {R : Type 0} (o : Option Waiter) (way : ℕ) (op : Op) (told : Option Answer) (routines : List (Option R)) → IsPartnerRow o way op told
+    → without_leaver o told routines ≡ routines
+partner_keeps None way op told routines row = refl
+partner_keeps (Some w) way op told routines row = ap (λ told. without_leaver (Some w) told routines) row.0.1
 
-  four_lengths : (a b c d : List (JobState R)) → length (a ++ b ++ c ++ d) ≡ length a + length b + length c + length d
-  four_lengths a b c d =
-      let p = length-append (a ++ b ++ c) d in
-      let q = length-append (a ++ b) c in
-      let r = length-append a b in
-      omega (arith, p, q, r)
-
-  -- who is active stands in one of the lists after a firing
-  pub once_after : (old new : HubState R) (f : Firing) → Moves old new f → IsLegal (capacity_of old.decls.declarations) old.events → StandOnce old
-      → length old.parked ≡ length old.waiting → HasRows old.waiting f.choice f.event f.told f.partner
-      → event_of old.events old.waiting f.choice ≡ Some f.event → broken (capacity_of old.decls.declarations) old.events f.event ≡ None
-      → HasBox old.unstarted (started_by f.event.op) → StandOnce new
-  once_after old new f m legal once parked rows makes kept box g =
-      let same : rows.w ≡ m.w = some_is (sym rows.asks ∙ m.asks) in
-      let row = subst (λ (w : Waiter). IsRow w.asked.ask f.choice.offer (done_by w.who f.event.op) f.told) same rows.row in
-      let who = ap (λ n. n == g) (event_who old.events old.waiting f.choice m.w f.event m.asks makes) in
-      let told = told_leaves m.w.asked.ask f.choice.offer m.w.who f.event.op f.told row in
-      let asker : jobs_of g (goes_on m.w m.p f.told) ≡ as_number (not (leaves f.event.op) && (m.w.who == g)) =
-      goes_count g m.w m.p f.told ∙ ap (λ b. as_number (b && (m.w.who == g))) told in
-      let other = partner_count g f.choice old.waiting old.parked (f.choice.partner_offer - 1) f.event.op f.partner parked rows.partner rows.partner_row in
-      let born = begun_count g old.unstarted f.event.op box in
-      let ready = ap (jobs_of g) m.ready ∙ four_counts g old.ready (goes_on m.w m.p f.told)
-      (partner_goes_on (partner_of f.choice old.waiting) (partner_of f.choice old.parked) f.partner) (born_of old.unstarted (started_by f.event.op)) in
-      let waits = count_without (λ (w : Waiter). w.who == g) f.choice old.waiting m.w m.asks rows.partner rows.apart in
-      let left = ap (count_by (λ (w : Waiter). w.who == g)) m.waiting in
-      let out = ap (count_by (λ o. o == g)) m.out in
-      let balance = asker_balance (leaves f.event.op) (m.w.who == g) in
-      let leaver = ap (λ b. as_number (b && leaves f.event.op)) who in
-      let sums : standing old g + as_number (starts g f.event.op) ≡ standing new g + as_number ((f.event.who == g) && leaves f.event.op) =
-      omega (arith, asker, other, born, ready, waits, left, out, balance, leaver) in
-      one_step (g == 0) (started g old.events) (has_exited g old.events) (has_failed g old.events) (starts g f.event.op) (f.event.who == g)
-      (is_exit f.event.op) (is_fault f.event.op) (standing old g) (standing new g) (once g) sums
-      (λ is. let one : as_number (m.w.who == g) ≡ 1 = ap as_number (sym who ∙ is) in omega (arith, waits, one))
-      (started_fresh (capacity_of old.decls.declarations) old.events f.event g legal kept)
-      ∙ ap (λ b. cond b 1 0) (sym (active_push g old.events f.event)) ∙ ap (λ es. cond (is_active g es) 1 0) (sym m.events)
-
-  -- who leaves is through after a firing
-  pub ends_after : (old new : HubState R) (f : Firing) → Moves old new f → StandOnce old → EndOnce old
-      → HasRows old.waiting f.choice f.event f.told f.partner → event_of old.events old.waiting f.choice ≡ Some f.event → EndOnce new
-  ends_after old new f m once ends rows makes g =
-      let same : rows.w ≡ m.w = some_is (sym rows.asks ∙ m.asks) in
-      let row = subst (λ (w : Waiter). IsRow w.asked.ask f.choice.offer (done_by w.who f.event.op) f.told) same rows.row in
-      let who = ap (λ n. n == g) (event_who old.events old.waiting f.choice m.w f.event m.asks makes) in
-      let told = told_leaves m.w.asked.ask f.choice.offer m.w.who f.event.op f.told row in
-      let through : through_of g (is_through m.w m.p f.told) ≡ as_number (leaves f.event.op && (f.event.who == g)) =
-      through_count g m.w m.p f.told ∙ (λ i. as_number (not (told i) && sym who i))
-      ∙ ap (λ b. as_number (b && (f.event.who == g))) (not_not (leaves f.event.op)) in
-      let more = ap (through_of g) m.ended ∙ count_append (λ (l : ℕ × List Step). l.0 == g) old.ended (is_through m.w m.p f.told) in
-      let waits = count_without (λ (w : Waiter). w.who == g) f.choice old.waiting m.w m.asks rows.partner rows.apart in
-      left_push g old.events f.event (through_of g old.ended) (through_of g new.ended) (ends g) (omega (arith, more, through))
-      (λ is. let one : as_number (m.w.who == g) ≡ 1 = ap as_number (sym who ∙ is) in
-      standing_stays (g == 0 || started g old.events) (has_exited g old.events) (has_failed g old.events) (standing old g) (once g) (omega (arith, waits, one)))
-      ∙ ap (λ es. cond (has_left g es) 1 0) (sym m.events)
-
-  -- what a hub holds it holds after a firing
-  pub holds_after : (k l : ReplayState) (old new : HubState R) (f : Firing) → Moves old new f → Holds k old → stop_of old ≡ None → IsFiring old f
-      → StandsFor old.decls.declarations l (old.events ++ f.event ∷ []) → Holds l new
-  holds_after k l old new f m holds on firing stands =
-      let rows = firing.rows in
-      let less = below_limit old on holds.limited in
-      let more = length-append old.events (f.event ∷ []) in
-      let waits = length_without f.choice old.waiting rows.place rows.partner rows.apart in
-      let rests = length_without f.choice old.parked (subst (λ n. f.choice.place < n) (sym holds.parked) rows.place)
-      (subst (λ n. f.choice.partner ≤ n) (sym holds.parked) rows.partner) rows.apart in
-      let same = holds.parked in
-      let heads = holds.heads in
-      let born = born_count old.unstarted (started_by f.event.op) firing.box in
-      let ready = four_lengths old.ready (goes_on m.w m.p f.told) (partner_goes_on (partner_of f.choice old.waiting) (partner_of f.choice old.parked) f.partner)
-      (born_of old.unstarted (started_by f.event.op)) in
-      let one = goes_len m.w m.p f.told in
-      let other = partner_len f.choice old.waiting old.parked f.partner in
-      let boxes = boxes_len old.unstarted (started_by f.event.op) in
-      record {
-        stands = rw (m.decls, m.events) stands;
-        limited = rw (m.events, m.limit) (omega (arith, less, more));
-        once = once_after old new f m holds.stands.legal holds.once holds.parked rows firing.makes firing.legal firing.box;
-        ends = ends_after old new f m holds.once holds.ends rows firing.makes;
-        few = rw m.limit holds.few;
-        parked = rw (m.parked, m.waiting) (omega (arith, waits, rests, same));
-        few_goroutines = rw (m.unstarted, boxes) holds.few_goroutines;
-        boxes = rw (m.unstarted, m.decls, boxes) holds.boxes;
-        unborn = λ g positive within fresh.
-            let parts = both_false (started g old.events) (starts g f.event.op)
-            (sym (has_push (starts g) old.events f.event) ∙ subst (λ es. started g es ≡ false) m.events fresh) in
-            let there = holds.unborn g positive (subst (λ n. g < n) (ap length m.unstarted ∙ boxes) within) parts.0 in
-            (there.0, ap (λ bs. slice_get bs g) m.unstarted ∙ boxes_other f.event.op old.unstarted g parts.1 ∙ there.1);
-        heads = rw (m.ready, m.waiting, m.out, m.unstarted) (omega (arith, waits, heads, born, ready, one, other, boxes));
-        sound = λ _. rw (m.waiting, m.decls) (all_without (λ w. IsTrue (is_sound old.decls w)) f.choice old.waiting (holds.sound on));
-        bad_waits = λ g is. absurd (bad_stops old g (sym m.bad ∙ is) on);
-      }
+-- what a hub holds it holds after a firing
+pub fired : {R : Type 0} (k l : ReplayState) (old new : HubState R) (t : Choice) (f : Fires old t new) → t.partner ≤ length old.waiting
+    → t.partner ≢ t.place + 1 → Holds k old → stop_of old ≡ None → StandsFor old.decls.declarations l (old.events ++ f.e ∷ []) → Holds l new
+fired k l old new t f partner apart holds on stands =
+    let (decls, limit, out, bad) = f.same in
+    let len = ap length f.routines ∙ leaver_len (Some f.w) f.told old.routines in
+    record {
+      kept = fired_kept old new t f partner apart (below_limit old on holds.kept.limited) holds.kept;
+      stands = rw (decls, f.events) stands;
+      few = rw limit holds.few;
+      few_goroutines = rw len holds.few_goroutines;
+      count = rw (len, decls) holds.count;
+      sound = λ _. rw (f.waiting, decls) (all_without (λ w. IsTrue (is_sound old.decls w)) t old.waiting (holds.sound on));
+      bad_waits = λ g is. absurd (bad_stops old g (sym bad ∙ is) on);
+    }

@@ -1,4 +1,4 @@
--- Logs in their places, and how a trace passes along them.
+-- How a trace passes along logs.
 use Rattle.std.proofs.Common.{◌≡◌, ◌≢◌, ◌==◌, ◌||◌, ◌&&◌, not, ℕ, zero, suc, ◌<◌, ◌≤◌, ◌+◌, ◌++◌, Bool, true, false}
 use Rattle.std.proofs.Common.{cond, if◌then◌else◌, List, [], ◌∷◌, length, slice_get, slice_set, Option, Some, None}
 use Rattle.std.proofs.Common.{refl, sym, ap, ◌∙◌, subst, arith, true≢false, length-append, append-nil, append_assoc}
@@ -6,11 +6,10 @@ use Rattle.std.proofs.{Common.eq-eqb, lemmas.{Bool.Decides.nat_tests, Option.{no
 use Rattle.std.proofs.lemmas.List.{length-set, Elements.filter-append}
 use Rattle.race_records.specs.declared.event.{Event.Event, Op.{Op, TheVariants.{Go, Meet}}}
 use Rattle.race_model.{specs.Events.{starts, gives, partner}, proofs.Indexes.{append_at_old, slice_get-push}}
-use Rattle.race_requests.{specs.{declared.request.{Step.Step, Waiter.Waiter}, Table.Fits}, proofs.ChoiceLemmas.some_is}
-use Rattle.race_hub.specs.{Part.{part_of, IsPart}, Tracks.{TrackState, fresh, HasPart, IsPassed, IsTracked, is_in_part}}
-use Rattle.race_hub.specs.Tracks.{HavePassed, OneHasPassed, AreBlank, is_through, asker_of, receiver_of}
-use Rattle.race_hub.specs.{Finish.{placed, logs_behind, logs_of_jobs}, Job.JobState, Hub.ParkedState}
-use Rattle.race_hub.proofs.PerformLemmas.{set_other}
+use Rattle.race_requests.{specs.{declared.request.Step.Step, Table.Fits}, proofs.ChoiceLemmas.some_is}
+use Rattle.race_hub.specs.{Part.{part_of, IsPart}, Tracks.{TrackState, HasPart, IsPassed, IsTracked, is_in_part}}
+use Rattle.race_hub.specs.Tracks.{HavePassed, OneHasPassed, is_through, asker_of, receiver_of}
+use Rattle.race_hub.proofs.TableLemmas.{set_other, get_set}
 
 -- the part with one event more
 part_push : (g : ℕ) (past : List Event) (e : Event) → part_of g (past ++ e ∷ []) ≡ part_of g past ++ cond (is_in_part g e) (e ∷ []) []
@@ -23,7 +22,7 @@ part_without : (g : ℕ) (past : List Event) (e : Event) → is_in_part g e ≡ 
 part_without g past e is = part_push g past e ∙ ap (λ b. part_of g past ++ cond b (e ∷ []) []) is ∙ append-nil (part_of g past)
 
 -- what stands in a list with one element more stands in the list, or is that element
-pushed_at : {X : Type 0} (xs : List X) (x : X) (k : ℕ) (y : X) → slice_get (xs ++ x ∷ []) k ≡ Some y → k ≢ length xs → slice_get xs k ≡ Some y
+pub pushed_at : {X : Type 0} (xs : List X) (x : X) (k : ℕ) (y : X) → slice_get (xs ++ x ∷ []) k ≡ Some y → k ≢ length xs → slice_get xs k ≡ Some y
 pushed_at [] x zero y is other = absurd (other refl)
 pushed_at [] x (suc k) y is other = absurd (none-some y is)
 pushed_at (z ∷ xs) x zero y is other = is
@@ -148,40 +147,6 @@ has_no_part g log events passed part =
     let many = part.as_many in
     passed (record { enough = omega (arith, many); each = part.each })
 
--- Places.
-
-pub placed_more : (xs ys : List (ℕ × List Step)) (tracks : List TrackState) → placed (xs ++ ys) tracks ≡ placed ys (placed xs tracks)
-placed_more [] ys tracks = refl
-placed_more (x ∷ xs) ys tracks = placed_more xs ys (slice_set tracks x.0 (fresh x.1))
-
-pub jobs_one : {R : Type 0} (jobs : List (JobState R)) (job : JobState R) → logs_of_jobs (jobs ++ job ∷ []) ≡ logs_of_jobs jobs ++ (job.who, job.log) ∷ []
-jobs_one [] job = refl
-jobs_one (j ∷ jobs) job = ap (λ rest. (j.who, j.log) ∷ rest) (jobs_one jobs job)
-
-pub placed_one : (xs : List (ℕ × List Step)) (g : ℕ) (log : List Step) (tracks : List TrackState)
-    → placed (xs ++ (g, log) ∷ []) tracks ≡ slice_set (placed xs tracks) g (fresh log)
-placed_one xs g log tracks = placed_more xs ((g, log) ∷ []) tracks
-
--- Blank tracks.
-
-pub blank_none : (tracks : List TrackState) → tracks ≡ [] → AreBlank 0 tracks
-blank_none tracks is = rw is (record { count = refl; each = λ g t at. absurd (none-some t at) })
-
-pub blank_more : (n : ℕ) (tracks : List TrackState) (t : TrackState) → AreBlank n tracks → t ≡ fresh [] → AreBlank (n + 1) (tracks ++ t ∷ [])
-blank_more n tracks t blank is =
-    let len = length-append tracks (t ∷ []) in
-    let count = blank.count in
-    record {
-      count = omega (arith, len, count);
-      each = λ g u at. by g u at (g == length tracks) refl;
-    }
-  where
-    by : (g : ℕ) (u : TrackState) → slice_get (tracks ++ t ∷ []) g ≡ Some u → (b : Bool) → (g == length tracks) ≡ b → u ≡ fresh []
-    by g u at true test =
-        let same : g ≡ length tracks = grind (arith, nat_tests) in
-        some_is (sym at ∙ ap (slice_get (tracks ++ t ∷ [])) same ∙ slice_get-push tracks t) ∙ is
-    by g u at false test = blank.each g u (pushed_at tracks t g u at (λ same. true≢false (sym (eq-eqb g (length tracks) same) ∙ test)))
-
 -- All of a log is passed, or not.
 
 pub through_is_part : (g : ℕ) (t : TrackState) (events : List Event) → is_through t ≡ true → IsTracked g events t → IsPart g t.log events
@@ -197,11 +162,6 @@ other_is_no_part g t events not tracked = by t.passed not tracked
     by : (n : Option ℕ) → elim n [ Some n ↦ n == length t.log | None ↦ false ] ≡ false → IsPassed g t.log events n → IsPart g t.log events → ⊥
     by None not passed = has_no_part g t.log events passed
     by (Some n) not passed = is_no_part g t.log events n passed (λ same. true≢false (sym (eq-eqb n (length t.log) same) ∙ not))
-
-pub get_set : {X : Type 0} (xs : List X) (k : ℕ) (y : X) → k < length xs → slice_get (slice_set xs k y) k ≡ Some y
-get_set [] k y less = absurd (omega (arith, less))
-get_set (x ∷ xs) zero y less = refl
-get_set (x ∷ xs) (suc k) y less = get_set xs k y (omega (arith, less))
 
 -- One goroutine passes an event.
 
@@ -328,33 +288,3 @@ all_pass e old mid new first second = record {
     by g t u v past on stays further rests tracked false false p q =
         subst (IsTracked g (past ++ e ∷ [])) (sym (stays p) ∙ sym (rests q))
         (passes_others g past e t (in_part_by g e ∙ (λ i. p i || q i)) tracked)
-
--- A log among kept ones.
-
-pub none_behind : (R : Type 0) (ws : List Waiter) → logs_behind {R = R} ws [] ≡ []
-none_behind R [] = refl
-none_behind R (w ∷ ws) = refl
-
-behind_more : {R : Type 0} (ws : List Waiter) (ps : List (ParkedState R)) (p : ParkedState R) (at : ℕ) (w : Waiter) → at ≡ length ps → slice_get ws at ≡ Some w
-    → logs_behind ws (ps ++ p ∷ []) ≡ logs_behind ws ps ++ (w.who, p.log) ∷ []
-behind_more [] ps p at w is there = absurd (none-some w there)
-behind_more {R} (v ∷ ws) [] p at w is there =
-    let first : slice_get (v ∷ ws) 0 ≡ Some w = ap (slice_get (v ∷ ws)) (sym is) ∙ there in
-    ap (λ rest. (v.who, p.log) ∷ rest) (none_behind R ws) ∙ ap (λ (v : Waiter). (v.who, p.log) ∷ []) (some_is first)
-behind_more (v ∷ ws) (q ∷ ps) p zero w is there = absurd (omega (arith, is))
-behind_more (v ∷ ws) (q ∷ ps) p (suc at) w is there = ap (λ rest. (v.who, q.log) ∷ rest) (behind_more ws ps p at w (omega (arith, is)) there)
-
-no_more_behind : {R : Type 0} (ws : List Waiter) (ps : List (ParkedState R)) (p : ParkedState R) → length ws ≤ length ps
-    → logs_behind ws (ps ++ p ∷ []) ≡ logs_behind ws ps
-no_more_behind [] [] p le = refl
-no_more_behind [] (q ∷ ps) p le = refl
-no_more_behind (v ∷ ws) [] p le = absurd (omega (arith, le))
-no_more_behind (v ∷ ws) (q ∷ ps) p le = ap (λ rest. (v.who, q.log) ∷ rest) (no_more_behind ws ps p (omega (arith, le)))
-
-pub behind_next : {R : Type 0} (ws : List Waiter) (ps : List (ParkedState R)) (p : ParkedState R) (w : Waiter) → slice_get ws (length ps) ≡ Some w
-    → logs_behind ws (ps ++ p ∷ []) ≡ logs_behind ws ps ++ (w.who, p.log) ∷ []
-behind_next ws ps p w there = behind_more ws ps p (length ps) w refl there
-
-pub behind_all : {R : Type 0} (ws : List Waiter) (ps : List (ParkedState R)) (p : ParkedState R) → length ws ≤ length ps
-    → logs_behind ws (ps ++ p ∷ []) ≡ logs_behind ws ps
-behind_all ws ps p le = no_more_behind ws ps p le

@@ -5,7 +5,7 @@ use Rattle.race_model.specs.Legal.{broken}
 use Rattle.race_requests.specs.declared.{choice.Choice.Choice, request.{Answer.Answer, Waiter.Waiter}}
 use Rattle.race_requests.specs.{Choices.event_of, Table.{IsRow, done_by}}
 use Rattle.race_hub.specs.{declared.firing.Firing.Firing, Hub.HubState, Fires.{partner_of, IsPartnerRow, started_by}}
-use Rattle.race_hub.specs.Fires.{HasBox}
+use Rattle.race_hub.specs.Fires.{HasRoutine}
 
 -- who takes part in the choice's event, and what each is told
 pub record HasRows (waiting : List Waiter) (t : Choice) (e : Event) (told partner_told : Option Answer) : Type 0 where
@@ -29,4 +29,4 @@ pub record IsFiring {R : Type 0} (h : HubState R) (f : Firing) : Type 0 where
   pub makes : event_of h.events h.waiting f.choice ≡ Some f.event
   pub legal : broken (capacity_of h.decls.declarations) h.events f.event ≡ None
   pub fits : IsTrue (fits h.decls f.event)
-  pub box : HasBox h.unstarted (started_by f.event.op)
+  pub routine : HasRoutine h.routines (started_by f.event.op)

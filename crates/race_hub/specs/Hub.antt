@@ -3,14 +3,9 @@ use Rattle.std.specs.Prelude.{ℕ, ◌==◌, ◌-◌, ◌&&◌, if◌then◌else
 use Rattle.std.specs.Prelude.{Option, Some, None}
 use Rattle.race_records.specs.{declared.event.Event.Event, Declarations.{DeclsState, capacity_of}}
 use Rattle.race_model.specs.Events.{is_exit, is_fault}
-use Rattle.race_requests.specs.{declared.{choice.Choice.Choice, request.{Step.Step, Waiter.Waiter}}, Choices.choices}
-use Rattle.race_requests.specs.Waiting.{WaitingState}
-use Rattle.race_hub.specs.{declared.ending.End.End, Job.{JobState, begun}}
-
--- the box of a goroutine that waits, and its log so far
-pub record ParkedState (R : Type 0) : Type 0 where
-  pub routine : R
-  pub log : List Step
+use Rattle.race_requests.specs.declared.{choice.Choice.Choice, request.{Answer.Answer, Step.Step, Waiter.Waiter}}
+use Rattle.race_requests.specs.{Choices.choices, Waiting.WaitingState}
+use Rattle.race_hub.specs.declared.ending.End.{End}
 
 -- a `Hub` as its callers see it
 pub record HubState (R : Type 0) : Type 0 where
@@ -18,17 +13,16 @@ pub record HubState (R : Type 0) : Type 0 where
   pub events : List Event
   -- how many events there may be
   pub limit : ℕ
-  -- who is to be told, in order
-  pub ready : List (JobState R)
-  -- the requests that wait, in the order in which they came, and the box and the log behind each
+  -- the routines by goroutine: None while its job is out, and once it left
+  pub routines : List (Option R)
+  -- the logs by goroutine
+  pub logs : List (List Step)
+  -- who is told what next, in order
+  pub ready : List (ℕ × Answer)
+  -- the requests that wait, in the order in which they came
   pub waiting : List Waiter
-  pub parked : List (ParkedState R)
   -- whose job was taken and isn't back
   pub out : List ℕ
-  -- the boxes by goroutine, None where it was started
-  pub unstarted : List (Option R)
-  -- who exited or failed, and its log
-  pub ended : List (ℕ × List Step)
   -- whose request was bad
   pub bad : Option ℕ
 
@@ -38,12 +32,11 @@ opening decls limit main others = record {
   decls = decls;
   events = [];
   limit = limit;
-  ready = begun 0 main ∷ [];
+  routines = map Some (main ∷ others);
+  logs = map (λ _. []) (main ∷ others);
+  ready = (0, Answer.Begin) ∷ [];
   waiting = [];
-  parked = [];
   out = [];
-  unstarted = None ∷ map Some others;
-  ended = [];
   bad = None;
 }
 

@@ -1,6 +1,11 @@
 -- What the fields of a `Hub` stand for, and what holds of them.
-use Rattle.std.specs.Prelude.{◌+◌, ◌≤◌, length, vec_len, vec_capacity}
-use Rattle.race_hub.specs.{declared.hub.Hub.TheInside.Inside, Hub.HubState, Holds.Holds, Tracks.AreBlank}
+use Rattle.std.specs.{Prelude.{ℕ, ◌≡◌, ◌==◌, ◌<◌, ◌+◌, ◌≤◌, true, List, Bool, slice_get, Some, vec_len, vec_capacity}, List.count_by}
+use Rattle.race_requests.specs.declared.request.Waiter.{Waiter}
+use Rattle.race_hub.specs.{declared.hub.Hub.TheInside.Inside, Hub.HubState, Holds.Holds}
+
+-- the log of whoever waits has room for its step
+abbrev pub HaveRoom : List Waiter → List Bool → Type 0
+HaveRoom waiting have_room = (g : ℕ) → 0 < count_by (λ w. w.who == g) waiting → slice_get have_room g ≡ Some true
 
 module _ {R A : Type 0} where
   abbrev pub hub_state : Inside R A → HubState R
@@ -8,16 +13,15 @@ module _ {R A : Type 0} where
     decls = h.trace.decls;
     events = h.trace.events;
     limit = h.limit;
+    routines = h.routines.items;
+    logs = h.logs.logs;
     ready = h.ready.items;
     waiting = h.waiting.items;
-    parked = h.parked.items;
     out = h.out.items;
-    unstarted = h.unstarted.items;
-    ended = h.ended.items;
     bad = h.bad;
   }
 
-  -- who is ready has its room among those that are out, and each goroutine's log among the tracks of a recording
+  -- who is ready has its room among those that are out
   abbrev pub HubHolds : Inside R A → Type 0
   HubHolds h =
-      Holds h.replay (hub_state h) × (vec_len h.ready + vec_len h.out ≤ vec_capacity h.out) × AreBlank (length h.unstarted.items) h.tracks.items
+      Holds h.replay (hub_state h) × (vec_len h.ready + vec_len h.out ≤ vec_capacity h.out) × HaveRoom h.waiting.items h.logs.have_room

@@ -1,6 +1,8 @@
 pub mod Part
 pub mod Log
 pub mod LogHolds
+pub mod Logs
+pub mod LogsHolds
 pub mod Job
 pub mod Laws
 pub mod Hub

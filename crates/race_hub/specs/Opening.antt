@@ -4,15 +4,15 @@ use Rattle.race_records.specs.declared.{kind.Kind.Kind, trace.TheConstants.MAX_E
 use Rattle.race_records.specs.Declarations.{DeclsState, count_of}
 use Rattle.race_hub.specs.{declared.opening.HubFault.HubFault, Hub.{HubState, opening}}
 
--- why no hub of so many boxes is made: the first cause, in the order in which they are tested
+-- why no hub of so many routines is made: the first cause, in the order in which they are tested
 unfoldable pub hub_fault : DeclsState → ℕ → ℕ → Option HubFault
-hub_fault decls limit boxes =
-    if not (boxes == count_of Kind.Goroutine decls.declarations) then Some HubFault.WrongCount
+hub_fault decls limit routines =
+    if not (routines == count_of Kind.Goroutine decls.declarations) then Some HubFault.WrongCount
     else (if (limit == 0) || nat_lt MAX_EVENTS limit then Some HubFault.BadLimit else None)
 
--- the hub opens with the first box as main's, and with one for each other goroutine
-pub record IsOpening {R : Type 0} (decls : DeclsState) (limit : ℕ) (boxes : List R) (hub : HubState R) : Type 0 where
+-- the hub opens with the first routine as main's, and with one for each other goroutine
+pub record IsOpening {R : Type 0} (decls : DeclsState) (limit : ℕ) (routines : List R) (hub : HubState R) : Type 0 where
   pub main : R
   pub others : List R
-  pub all : boxes ≡ main ∷ others
+  pub all : routines ≡ main ∷ others
   pub hub_is : hub ≡ opening decls limit main others

@@ -1,7 +1,7 @@
 -- What a job that is put back does to the hub. (Our own; compare The Go Programming Language Specification, "Go statements";
 -- package sync)
 use Rattle.std.specs.Prelude.{ℕ, ◌≡◌, ◌==◌, ◌&&◌, not, if◌then◌else◌, Bool, false, List, [], ◌∷◌, ◌++◌, remove, Some}
-use Rattle.std.specs.{Prelude.{None, is_none, is_some}, List.{list_any, position_or_len}}
+use Rattle.std.specs.{Prelude.{None, is_none, is_some, slice_get, slice_set}, List.{list_any, position_or_len}}
 use Rattle.race_requests.specs.{declared.request.{Request.Request, Waiter.Waiter}, Sound.is_bad_among}
 use Rattle.race_hub.specs.{Job.JobState, Hub.{HubState, end_of}}
 
@@ -25,21 +25,25 @@ ends_hub h job = elim job.asked [ None ↦ false | Some asked ↦ is_none (end_o
 abbrev pub without_first : ℕ → List ℕ → List ℕ
 without_first g numbers = remove numbers (position_or_len (λ o. o == g) numbers)
 
--- the first that was ready is out, and the rest stays
+-- the first that was ready is out, with its routine and its log, and the rest stays
 pub record Takes {R : Type 0} (old : HubState R) (job : JobState R) (new : HubState R) : Type 0 where
-  pub ready : old.ready ≡ job ∷ new.ready
+  pub ready : old.ready ≡ (job.who, job.answer) ∷ new.ready
+  pub routine : slice_get old.routines job.who ≡ Some (Some job.routine)
+  pub log : slice_get old.logs job.who ≡ Some job.log
+  pub asked : job.asked ≡ None
   pub out : new.out ≡ old.out ++ job.who ∷ []
-  pub same : (new.decls ≡ old.decls) × (new.events ≡ old.events) × (new.limit ≡ old.limit) × (new.waiting ≡ old.waiting) × (new.parked ≡ old.parked)
-      × (new.unstarted ≡ old.unstarted) × (new.ended ≡ old.ended) × (new.bad ≡ old.bad)
+  pub routines : new.routines ≡ slice_set old.routines job.who None
+  pub logs : new.logs ≡ slice_set old.logs job.who []
+  pub same : (new.decls ≡ old.decls) × (new.events ≡ old.events) × (new.limit ≡ old.limit) × (new.waiting ≡ old.waiting) × (new.bad ≡ old.bad)
 
--- the job waits behind the others with what it asked, and isn't out
+-- the job waits behind the others with what it asked, its routine and its log are in their places, and it isn't out
 pub record Submits {R : Type 0} (old : HubState R) (job : JobState R) (new : HubState R) : Type 0 where
   pub asked : Request
   pub asks : job.asked ≡ Some asked
   pub waiting : new.waiting ≡ old.waiting ++ record { who = job.who; asked = asked } ∷ []
-  pub parked : new.parked ≡ old.parked ++ record { routine = job.routine; log = job.log } ∷ []
   pub out : new.out ≡ without_first job.who old.out
+  pub routines : new.routines ≡ slice_set old.routines job.who (Some job.routine)
+  pub logs : new.logs ≡ slice_set old.logs job.who job.log
   -- where the hub hasn't ended and the request is bad, it ends the hub
   pub bad : new.bad ≡ (if ends_hub old job then Some job.who else old.bad)
   pub same : (new.decls ≡ old.decls) × (new.events ≡ old.events) × (new.limit ≡ old.limit) × (new.ready ≡ old.ready)
-      × (new.unstarted ≡ old.unstarted) × (new.ended ≡ old.ended)

@@ -6,19 +6,12 @@ use Rattle.race_model.specs.Events.{takes_part, starts, gives}
 use Rattle.race_requests.specs.{declared.request.Step.Step, Table.Fits}
 use Rattle.race_hub.specs.Part.{part_of, IsPart}
 
--- a `Track` as its callers see it: a log, and how many of its steps the events so far have, None where they aren't its first
+-- a `Track` as its callers see it: a log, whether it has room for a step more, and how many of its steps the events so far have,
+-- None where they aren't its first
 pub record TrackState : Type 0 where
   pub log : List Step
+  pub has_room : Bool
   pub passed : Option ℕ
-
--- a log before the first event
-abbrev pub fresh : List Step → TrackState
-fresh log = record { log = log; passed = Some 0 }
-
--- so many tracks, of logs without a step
-pub record AreBlank (n : ℕ) (tracks : List TrackState) : Type 0 where
-  pub count : length tracks ≡ n
-  pub each : (g : ℕ) (t : TrackState) → slice_get tracks g ≡ Some t → t ≡ fresh []
 
 -- the log has a step for each event of g's part, in order, and each fits
 pub record HasPart (g : ℕ) (log : List Step) (events : List Event) : Type 0 where

@@ -1,15 +1,14 @@
 //! The hub: the goroutines of a run, their requests, and the trace that they make.
-ghost use Rattle.std.specs.Prelude.{◌≡◌, ◌≢◌, ◌<◌, ◌⊎◌, ◌++◌, ◌∷◌, [], List, map, length, if◌then◌else◌, Some, None};
-ghost use Rattle.std.specs.Prelude.{Ok, Err, true, false, ◌≤◌, ◌==◌, ◌&&◌, ◌||◌, nat_lt, not, is_none, IsTrue, All};
-ghost use Rattle.std.specs.{Prelude.{IfOk, IfErr, IfSome, IsNone, OnOk, OnErr}, List.find};
-ghost use Rattle.std.specs.Option.{option_copied, option_map};
+ghost use Rattle.std.specs.Prelude.{◌≡◌, ◌≢◌, ◌<◌, ◌⊎◌, ◌++◌, ◌∷◌, [], List, length, if◌then◌else◌, Some, None, Ok, Err};
+ghost use Rattle.std.specs.Prelude.{true, false, ◌≤◌, ◌==◌, ◌&&◌, is_none, IsTrue, All, IfOk, IfErr, IfSome, IsNone, OnOk};
+ghost use Rattle.std.specs.{Prelude.OnErr, List.find, Option.{option_copied, option_map}};
 ghost use Rattle.race_records.specs.{Refusal.{Refuses, AllowsUnless}, declared.kind.Kind.Kind};
 ghost use Rattle.race_records.specs.{declared.trace.TheConstants.MAX_EVENTS, Declarations.{capacity_of, count_of}};
 ghost use Rattle.race_records.specs.Events.{fits};
 ghost use Rattle.race_model.specs.Legal.{IsLegal};
 ghost use Rattle.race_legal.specs.{ReplayState.{counts_in, IsInRange}, StandsFor.GoesOn};
 ghost use Rattle.race_requests.specs.Search.{picked};
-ghost use Rattle.race_hub.specs.{Holds.HaveBoxes, Hub.{choices_of, stop_of, end_of}, Opening.{hub_fault, IsOpening}};
+ghost use Rattle.race_hub.specs.{Kept.IsKept, Hub.{choices_of, stop_of, end_of}, Opening.{hub_fault, IsOpening}};
 ghost use Rattle.race_hub.specs.{Firing.IsFiring, Fires.{Fires, IsFired}, Submits.{Takes, Submits}, Job.JobState};
 ghost use Rattle.race_hub.specs.{Recording.HasEnded, Finish.{IsRecorded, IsMismatch}};
 ghost use Rattle.race_model.specs.Events as model;
@@ -18,12 +17,12 @@ ghost use Rattle.race_requests.specs.Sound as sound;
 ghost use Rattle.race_hub.specs.Submits as submits;
 
 use crate::firing::{Firing, firing_of, started_in};
-use crate::moves::{is_among, make_room, resume, start, take_first};
-use crate::opening::{HubFault, fault_of, unstarted};
-use crate::parked::{Ended, Parked};
-use crate::track::{Track, blank_tracks, first_other, least, pass_all, put_logs};
+use crate::logs::Logs;
+use crate::moves::{begin, is_among, make_room, take_first, take_out, tell};
+use crate::opening::{HubFault, fault_of, seated};
+use crate::track::least;
 use crate::waiters::request_of;
-use crate::{Choice, End, Job, Mismatch, Recording, Request, Waiter, WaitingList};
+use crate::{Answer, Choice, End, Job, Mismatch, Recording, Request, Waiter, WaitingList};
 use race_legal::Replay;
 use race_records::{Decls, Event, Kind, Op, Trace};
 use race_requests::{is_out_of_turn, is_sound};
@@ -47,15 +46,13 @@ pub struct Hub<R, A: Allocator = Global> {
     replay: Replay<A>,
     trace: Trace<A>,
     limit: u32,
-    ready: Vec<Job<R, A>, A>,
-    waiting: Vec<Waiter, A>,
-    parked: Vec<Parked<R, A>, A>,
-    out: Vec<u32, A>,
-    unstarted: Vec<Option<R>, A>,
-    ended: Vec<Ended<A>, A>,
     bad: Option<u32>,
-    // A place for each log: what a recording needs is there from the start.
-    tracks: Vec<Track<A>, A>,
+    // The table of the goroutines: the routines, but for those that are out or left, and the logs.
+    routines: Vec<Option<R>, A>,
+    logs: Logs<A>,
+    ready: Vec<(u32, Answer), A>,
+    waiting: Vec<Waiter, A>,
+    out: Vec<u32, A>,
 }
 
 impl<R: Drop, A: Allocator> Drop for Hub<R, A> {
@@ -65,14 +62,12 @@ impl<R: Drop, A: Allocator> Drop for Hub<R, A> {
             replay: _,
             trace: _,
             limit: _,
+            bad: _,
+            routines: _,
+            logs: _,
             ready: _,
             waiting: _,
-            parked: _,
             out: _,
-            unstarted: _,
-            ended: _,
-            bad: _,
-            tracks: _,
         } = self;
     }
 }
@@ -141,9 +136,27 @@ fn append<A: Allocator>(
     Ok(())
 }
 
+// Whose request was bad, once this one's was or wasn't.
+fn named(known: Option<u32>, bad: bool, who: u32) -> Option<u32>
+    ensures { result ≡ (if bad then Some who else known) }
+{
+    if bad { Some(who) } else { known }
+}
+
+// What comes of a job that was put back, whose request was bad or not.
+fn taken<R, A: Allocator>(bad: bool) -> Result<(), SubmitFault<R, A>>
+    ensures { result ≡ (if bad then Err SubmitFault.BadRequest else Ok tt) }
+{
+    if bad {
+        Err(SubmitFault::BadRequest)
+    } else {
+        Ok(())
+    }
+}
+
 impl<R: Drop, A: Allocator + Copy> Hub<R, A> {
-    /// The hub of these declarations, which may make as many events as the limit says, with a box for each goroutine, main
-    /// first. Main is ready, and nobody else was started.
+    /// The hub of these declarations, which may make as many events as the limit says, with a routine for each goroutine,
+    /// main first. Main is ready, and nobody else was started.
     pub fn new(
         alloc: A,
         decls: Decls<A>,
@@ -177,27 +190,22 @@ impl<R: Drop, A: Allocator + Copy> Hub<R, A> {
         // A proof knows how many goroutines there may be once they are counted.
         let _count = decls.count(Kind::Goroutine);
         let replay = Replay::new(alloc, &decls)?;
-        let mut others = routines;
-        let main = others.remove(0);
-        let unstarted = unstarted(alloc, others)?;
+        let (routines, logs) = seated(alloc, routines)?;
         let mut ready = Vec::new(alloc);
-        ready.push(Job::new(alloc, 0, main))?;
+        ready.push((0, Answer::Begin))?;
         // For main, and for the three that the first event asks room for.
         let out = Vec::with_capacity(alloc, 4)?;
-        let tracks = blank_tracks(alloc, unstarted.len())?;
         Ok(Hub {
             alloc,
             replay,
             trace: Trace::new(decls),
             limit,
+            bad: None,
+            routines,
+            logs,
             ready,
             waiting: Vec::new(alloc),
-            parked: Vec::new(alloc),
             out,
-            unstarted,
-            ended: Vec::new(alloc),
-            bad: None,
-            tracks,
         })
     }
 }
@@ -272,8 +280,8 @@ impl<R, A: Allocator> Hub<R, A> {
         requires { stop_of self.now ≡ None }
         ensures list { result ≡ spec.list_of self.now }
         ensures sound { All (λ w. IsTrue (sound.is_sound self.now.decls w)) self.now.waiting }
-        ensures boxes { HaveBoxes self.now }
-        ensures count { length self.now.unstarted ≡ count_of Kind.Goroutine self.now.decls.declarations }
+        ensures kept { IsKept self.now }
+        ensures count { length self.now.routines ≡ count_of Kind.Goroutine self.now.decls.declarations }
     {
         WaitingList::new(&self.replay, &self.trace, self.waiting.as_slice())
     }
@@ -319,15 +327,21 @@ impl<R, A: Allocator> Hub<R, A> {
     /// The goroutine that has been ready longest, to let it go on elsewhere; none where nobody is ready or the hub has ended.
     /// Takes no memory.
     pub fn take(&mut self) -> Option<Job<R, A>>
+    where
+        A: Copy,
         ensures some { IfSome result (λ job. (end_of self.old ≡ None) × Takes self.old job self.new) }
         ensures none { IsNone result → (self.new ≡ self.old) × ((end_of self.old ≢ None) ⊎ (self.old.ready ≡ [])) }
     {
         if self.ready.is_empty() || self.stop().is_some() {
             return None;
         }
-        let job = self.ready.remove(0);
-        self.out.push_reserved(job.who());
-        Some(job)
+        let (who, answer) = self.ready.remove(0);
+        let Some(routine) = self.routines[who as usize].take() else {
+            unreachable!();
+        };
+        let log = self.logs.take(self.alloc, who);
+        self.out.push_reserved(who);
+        Some(Job::new(who, routine, answer, log))
     }
 
     // Whether the job was taken from here and has asked since.
@@ -372,20 +386,18 @@ impl<R, A: Allocator> Hub<R, A> {
         if !self.is_back(&job) {
             return Err(SubmitFault::Stray(job));
         }
-        if self.waiting.reserve(1).is_err() || self.parked.reserve(1).is_err() {
+        if self.waiting.reserve(1).is_err() {
             return Err(SubmitFault::OutOfMemory(job));
         }
-        let (waiter, parked) = job.park();
+        let (waiter, routine, log) = job.park();
         let who = waiter.who;
         let bad = self.is_bad(&waiter);
         self.waiting.push_reserved(waiter);
-        self.parked.push_reserved(parked);
+        self.routines[who as usize] = Some(routine);
+        self.logs.put(who, log);
         take_first(&mut self.out, who);
-        if bad {
-            self.bad = Some(who);
-            return Err(SubmitFault::BadRequest);
-        }
-        Ok(())
+        self.bad = named(self.bad, bad, who);
+        taken(bad)
     }
 
     // What a firing of this pick is to do, if there is a choice.
@@ -408,7 +420,6 @@ impl<R, A: Allocator> Hub<R, A> {
     fn perform(&mut self, firing: Firing) -> Result<(), AllocError>
     where
         R: Drop,
-        A: Copy,
         requires on { stop_of self.old ≡ None }
         requires firing { IsFiring self.old firing }
         ensures fires { OnOk result (Fires self.old firing.choice self.new) }
@@ -421,18 +432,12 @@ impl<R, A: Allocator> Hub<R, A> {
             partner,
         } = firing;
         let started = started_in(&event.op);
-        make_room(&mut self.ready, &mut self.out, &mut self.ended)?;
+        make_room(&mut self.ready, &mut self.out)?;
         append(&mut self.replay, &mut self.trace, event)?;
-        resume(
-            &mut self.waiting,
-            &mut self.parked,
-            &mut self.ready,
-            &mut self.ended,
-            choice,
-            told,
-            partner,
-        );
-        start(self.alloc, &mut self.ready, &mut self.unstarted, started);
+        let (waiter, other) = take_out(&mut self.waiting, choice);
+        tell(&mut self.routines, &mut self.logs, &mut self.ready, Some(waiter), told);
+        tell(&mut self.routines, &mut self.logs, &mut self.ready, other, partner);
+        begin(&mut self.ready, started);
         Ok(())
     }
 
@@ -478,20 +483,16 @@ impl<R, A: Allocator> Hub<R, A> {
             replay: _,
             trace,
             limit: _,
-            ready,
-            waiting,
-            parked,
-            out: _,
-            unstarted: _,
-            ended,
             bad: _,
-            mut tracks,
+            routines: _,
+            logs,
+            ready: _,
+            waiting,
+            out: _,
         } = self;
-        put_logs(&mut tracks, ready, waiting.as_slice(), parked, ended);
-        pass_all(&mut tracks, trace.events());
-        if let Some(goroutine) = first_other(tracks.as_slice()) {
-            return Err(Mismatch::Log(goroutine));
+        match logs.compare(trace.events()) {
+            Ok(tracks) => Ok(Recording::new(trace, tracks, waiting, end)),
+            Err(goroutine) => Err(Mismatch::Log(goroutine)),
         }
-        Ok(Recording::new(trace, tracks, waiting, end))
     }
 }

@@ -1,13 +1,12 @@
-//! A goroutine with its box, its log and what it asks.
-ghost use Rattle.std.specs.Prelude.{◌≡◌, Ok, Some, None, is_some, IsSome, OnErr, IfOk};
-ghost use Rattle.race_hub.specs.Job.{JobState, begun, asking};
+//! A goroutine with its routine, its log and what it asks.
+ghost use Rattle.std.specs.Prelude.{◌≡◌, true, Ok, Some, None, is_some, IsSome, OnErr, IfOk};
+ghost use Rattle.race_hub.specs.Job.{JobState, asking};
 
-use crate::parked::Parked;
 use crate::{Answer, Log, Request, Routine, Waiter};
 use std::alloc::{AllocError, Allocator, Global};
 use std::marker::Model;
 
-/// A goroutine: its box, what it was last told, its log, and what it asks and isn't told yet.
+/// A goroutine: its routine, what it was last told, its log, and what it asks and isn't told yet.
 pub struct Job<R, A: Allocator = Global> {
     who: u32,
     routine: R,
@@ -40,25 +39,10 @@ impl<R, A: Allocator> Model for Job<R, A> {
     ghost invariant = { λ j. IsSome j.asked → j.log.has_room ≡ true };
 }
 
-impl<R, A: Allocator + Copy> Job<R, A> {
-    /// The goroutine before its first turn. Takes no memory.
-    pub(crate) fn new(alloc: A, who: u32, routine: R) -> Job<R, A>
-        ensures { result ≡ begun who routine }
-    {
-        Job {
-            who,
-            routine,
-            answer: Answer::Begin,
-            log: Log::new(alloc),
-            asked: None,
-        }
-    }
-}
-
 impl<R, A: Allocator> Job<R, A> {
     /// The goroutine that was told this, with its log so far. Takes no memory.
     #[inline(always)]
-    pub(crate) fn resumed(who: u32, routine: R, answer: Answer, log: Log<A>) -> Job<R, A>
+    pub(crate) fn new(who: u32, routine: R, answer: Answer, log: Log<A>) -> Job<R, A>
         ensures { result ≡ record { who = who; routine = routine; answer = answer; log = log.items; asked = None } }
     {
         Job {
@@ -110,7 +94,7 @@ impl<R, A: Allocator> Job<R, A> {
         &self.log
     }
 
-    /// Lets the box go on with the last answer up to its next request, which is kept. Until that is answered, every turn gives
+    /// Lets the routine go on with the last answer up to its next request, which is kept. Until that is answered, every turn gives
     /// the kept request. A turn that is refused has changed nothing.
     #[inline(always)]
     pub fn turn(&mut self) -> Result<Request, AllocError>
@@ -133,13 +117,15 @@ impl<R, A: Allocator> Job<R, A> {
         Ok(asked)
     }
 
-    /// What it asks, and what stands behind that.
+    /// What it asks, its routine, and its log, which has room for the step.
     #[inline(always)]
-    pub(crate) fn park(self) -> (Waiter, Parked<R, A>)
+    pub(crate) fn park(self) -> (Waiter, R, Log<A>)
         requires { IsSome self.asked }
         ensures who { result.0.who ≡ self.who }
         ensures asked { self.asked ≡ Some result.0.asked }
-        ensures parked { result.1 ≡ record { routine = self.routine; log = self.log } }
+        ensures routine { result.1 ≡ self.routine }
+        ensures log { result.2.items ≡ self.log }
+        ensures room { result.2.has_room ≡ true }
     {
         let Job {
             who,
@@ -151,23 +137,6 @@ impl<R, A: Allocator> Job<R, A> {
         let Some(asked) = asked else {
             unreachable!();
         };
-        (Waiter { who, asked }, Parked::new(routine, log))
-    }
-
-    /// The goroutine, and its log.
-    pub(crate) fn into_log(self) -> (u32, Log<A>)
-    where
-        R: Drop,
-        ensures who { result.0 ≡ self.who }
-        ensures log { result.1.items ≡ self.log }
-    {
-        let Job {
-            who,
-            routine: _,
-            answer: _,
-            log,
-            asked: _,
-        } = self;
-        (who, log)
+        (Waiter { who, asked }, routine, log)
     }
 }

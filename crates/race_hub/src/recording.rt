@@ -1,9 +1,9 @@
 //! A recording: a run that has ended, with its trace and the log of each goroutine.
-ghost use Rattle.std.specs.{Prelude.{◌≡◌, ◌==◌, ◌<◌, length, map, slice_get, Some}, List.find};
+ghost use Rattle.std.specs.{Prelude.{◌≡◌, ◌==◌, ◌<◌, length, slice_get, Some}, List.find};
 ghost use Rattle.std.specs.Option.{option_copied, option_map};
 ghost use Rattle.race_records.specs.{declared.kind.Kind.Kind, Declarations.{capacity_of, count_of}};
 ghost use Rattle.race_model.specs.Legal.{IsLegal};
-ghost use Rattle.race_hub.specs.{Part.IsPart, Recording.AreParts};
+ghost use Rattle.race_hub.specs.{Part.IsPart, Logs.logs_in, Recording.AreParts};
 
 use crate::track::Track;
 use crate::waiters::request_of;
@@ -69,11 +69,11 @@ impl<A: Allocator> Recording<A> {
     ) -> Recording<A>
         requires count { length tracks.items ≡ count_of Kind.Goroutine trace.decls.declarations }
         requires legal { IsLegal (capacity_of trace.decls.declarations) trace.events }
-        requires parts { AreParts (map (λ t. t.log) tracks.items) trace.events }
+        requires parts { AreParts (logs_in tracks.items) trace.events }
         ensures { result ≡ record {
           decls = trace.decls;
           events = trace.events;
-          logs = map (λ t. t.log) tracks.items;
+          logs = logs_in tracks.items;
           waiting = waiting.items;
           end = end;
         } }

@@ -1,18 +1,16 @@
 //! How far a trace has come along the logs of its goroutines: one pass over the events with a place in each log.
-ghost use Rattle.std.specs.Prelude.{ℕ, ◌≡◌, ◌≤◌, ◌<◌, ◌++◌, ◌∷◌, [], List, true, length, map, slice_get, slice_set};
-ghost use Rattle.std.specs.Prelude.{IfOk, IfSome, IsNone};
+ghost use Rattle.std.specs.Prelude.{ℕ, ◌≡◌, ◌≤◌, ◌<◌, ◌++◌, ◌∷◌, [], List, true, length, slice_get, Some, IfSome, IsNone};
 ghost use Rattle.race_records.specs.{declared.{event.{Event.{Event as EventValue}}, kind.TheConstants.MAX_GOROUTINES}};
-ghost use Rattle.race_hub.specs.Tracks.{TrackState, fresh, AreBlank, IsPassed, IsTracked, is_in_part, HavePassed};
-ghost use Rattle.race_hub.specs.{Tracks.{OneHasPassed, IsFirstOther}, Finish.{placed, logs_of_jobs, logs_behind}};
-ghost use Rattle.race_hub.specs.Finish.{IsLeast};
+ghost use Rattle.race_hub.specs.{Tracks.{TrackState, IsPassed, IsTracked, is_in_part, HavePassed}, Finish.IsLeast};
+ghost use Rattle.race_hub.specs.Tracks.{OneHasPassed, IsFirstOther};
 ghost use Rattle.race_hub.specs.Tracks as spec;
 
 use crate::firing::started_in;
-use crate::parked::{Ended, Parked};
-use crate::{Job, Log, Waiter, fits_step};
+use crate::{Log, Step, fits_step};
 use race_records::{Event, Op};
-use std::alloc::{AllocError, Allocator, Global};
+use std::alloc::{Allocator, Global};
 use std::marker::Model;
+use std::mem;
 
 /// The log of a goroutine, and how many of its steps the events so far have: none where they aren't its first.
 #[derive(Drop)]
@@ -26,13 +24,13 @@ impl<A: Allocator> Model for Track<A> {
 
     ghost Value = { TrackState };
 
-    ghost view = { λ t. record { log = t.log.items; passed = t.passed } };
+    ghost view = { λ t. record { log = t.log.items; has_room = t.log.has_room; passed = t.passed } };
 }
 
 impl<A: Allocator> Track<A> {
     /// A log before the first event.
     pub(crate) fn new(log: Log<A>) -> Track<A>
-        ensures { result ≡ fresh log.items }
+        ensures { result ≡ record { log = log.items; has_room = log.has_room; passed = Some 0 } }
     {
         Track {
             log,
@@ -45,6 +43,25 @@ impl<A: Allocator> Track<A> {
         ensures { result.now.items ≡ self.now.log }
     {
         &self.log
+    }
+
+    /// The log that was here, and this one in its place.
+    pub(crate) fn replace(&mut self, log: Log<A>) -> Log<A>
+        ensures log { self.new.log ≡ log.items }
+        ensures passed { self.new.passed ≡ self.old.passed }
+        ensures old { result.items ≡ self.old.log }
+    {
+        mem::replace(&mut self.log, log)
+    }
+
+    /// Puts a step last in the log, which has room. Takes no memory.
+    #[inline(always)]
+    pub(crate) fn push_reserved(&mut self, step: Step)
+        requires { self.old.has_room ≡ true }
+        ensures log { self.new.log ≡ self.old.log ++ step ∷ [] }
+        ensures passed { self.new.passed ≡ self.old.passed }
+    {
+        self.log.push_reserved(step);
     }
 
     // How many steps are passed with one event more of its goroutine's part.
@@ -70,83 +87,6 @@ impl<A: Allocator> Track<A> {
     {
         self.passed = self.passed_with(goroutine, event);
     }
-}
-
-/// So many tracks, of logs without a step.
-pub(crate) fn blank_tracks<A: Allocator + Copy>(
-    alloc: A,
-    count: usize,
-) -> Result<Vec<Track<A>, A>, AllocError>
-    ensures { IfOk result (λ tracks. AreBlank count tracks.items) }
-{
-    let mut tracks = Vec::new(alloc);
-    for _ in 0..count {
-        tracks.push(Track::new(Log::new(alloc)))?;
-    }
-    Ok(tracks)
-}
-
-// Puts the log in its goroutine's place.
-fn put<A: Allocator>(tracks: &mut Vec<Track<A>, A>, goroutine: u32, log: Log<A>)
-    ensures { tracks.new.items ≡ slice_set tracks.old.items goroutine (fresh log.items) }
-{
-    let at = goroutine as usize;
-    if at < tracks.len() {
-        tracks[at] = Track::new(log);
-    }
-}
-
-// Puts the log of each job in its goroutine's place.
-fn put_ready<R: Drop, A: Allocator>(tracks: &mut Vec<Track<A>, A>, ready: Vec<Job<R, A>, A>)
-    ensures { tracks.new.items ≡ placed (logs_of_jobs ready.items) tracks.old.items }
-{
-    for job in ready {
-        let (goroutine, log) = job.into_log();
-        put(tracks, goroutine, log);
-    }
-}
-
-// Puts the log behind each request in its goroutine's place.
-fn put_parked<R: Drop, A: Allocator>(
-    tracks: &mut Vec<Track<A>, A>,
-    waiting: &[Waiter],
-    parked: Vec<Parked<R, A>, A>,
-)
-    ensures { tracks.new.items ≡ placed (logs_behind waiting.now parked.items) tracks.old.items }
-{
-    let mut at = 0;
-    for behind in parked {
-        if at < waiting.len() {
-            put(tracks, waiting[at].who, behind.into_log());
-            at += 1;
-        }
-    }
-}
-
-// Puts the log of each goroutine that is through in its place.
-fn put_ended<A: Allocator>(tracks: &mut Vec<Track<A>, A>, ended: Vec<Ended<A>, A>)
-    ensures { tracks.new.items ≡ placed ended.items tracks.old.items }
-{
-    for through in ended {
-        let (goroutine, log) = through.into_log();
-        put(tracks, goroutine, log);
-    }
-}
-
-/// Puts each log in its goroutine's place.
-pub(crate) fn put_logs<R: Drop, A: Allocator>(
-    tracks: &mut Vec<Track<A>, A>,
-    ready: Vec<Job<R, A>, A>,
-    waiting: &[Waiter],
-    parked: Vec<Parked<R, A>, A>,
-    ended: Vec<Ended<A>, A>,
-)
-    ensures { tracks.new.items ≡ placed ended.items
-        (placed (logs_behind waiting.now parked.items) (placed (logs_of_jobs ready.items) tracks.old.items)) }
-{
-    put_ready(tracks, ready);
-    put_parked(tracks, waiting, parked);
-    put_ended(tracks, ended);
 }
 
 // Who does the event, but for who starts itself.

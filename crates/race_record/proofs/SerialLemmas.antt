@@ -105,22 +105,22 @@ module _ {R : Type 0} where
 module _ {R : Type 0} (asks : R → Answer → Request → R → Type 0) where
   turn_goes_on : (old new : HubState R) → TakesTurn asks old new → GoesOn old new
   turn_goes_on old new t =
-      let (decls, events, limit, _, _, _, _, _) = t.takes.same in
-      let (decls2, events2, limit2, _, _, _) = t.submits.same in
+      let (decls, events, limit, _, _) = t.takes.same in
+      let (decls2, events2, limit2, _) = t.submits.same in
       record { decls = decls2 ∙ decls; limit = limit2 ∙ limit; more = []; events = events2 ∙ events ∙ sym (append-nil old.events) }
 
   -- a turn makes one goroutine fewer ready, and no event
   pub turn_fewer : (old new : HubState R) → TakesTurn asks old new → length new.ready < length old.ready
   turn_fewer old new t =
-      let (decls2, events2, limit2, ready, _, _) = t.submits.same in
+      let (decls2, events2, limit2, ready) = t.submits.same in
       let more : length old.ready ≡ suc (length t.between.ready) = ap length t.takes.ready in
       let same : length new.ready ≡ length t.between.ready = ap length ready in
       omega (arith, more, same)
 
   pub turn_keeps : (old new : HubState R) → TakesTurn asks old new → (new.events ≡ old.events) × (new.limit ≡ old.limit)
   turn_keeps old new t =
-      let (decls, events, limit, _, _, _, _, _) = t.takes.same in
-      let (decls2, events2, limit2, _, _, _) = t.submits.same in
+      let (decls, events, limit, _, _) = t.takes.same in
+      let (decls2, events2, limit2, _) = t.submits.same in
       (events2 ∙ events, limit2 ∙ limit)
 
   pub comes_goes_on : (picks : List ℕ) (start : HubState R) {h : HubState R} → Comes asks picks start h → GoesOn start h

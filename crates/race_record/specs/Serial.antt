@@ -10,7 +10,7 @@ abbrev pub pick_of : List ℕ → ℕ → ℕ
 pick_of picks number = unwrap_or (slice_get picks number) 0
 
 module _ {R : Type 0} (asks : R → Answer → Request → R → Type 0) where
-  -- the job behind its turn: what it asked stays asked, else its box goes on with the last answer up to its next request
+  -- the job behind its turn: what it asked stays asked, else its routine goes on with the last answer up to its next request
   abbrev pub IsTurned : Option Request → JobState R → JobState R → Type 0
   IsTurned (Some asked) old new = new ≡ old
   IsTurned None old new = (asked : Request) × (routine : R) × asks old.routine old.answer asked routine × (new ≡ asking old routine asked)

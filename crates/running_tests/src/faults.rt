@@ -18,7 +18,7 @@ enum Fault {
 static TEXTS: [(Fault, &str); 12] = [
     (
         Fault::Hub(HubFault::WrongCount),
-        "there is not one box for each goroutine",
+        "there is not one routine for each goroutine",
     ),
     (Fault::Hub(HubFault::BadLimit), "the limit is out of range"),
     (Fault::Hub(HubFault::OutOfMemory), "out of memory"),

@@ -1,5 +1,5 @@
 use Rattle.std.proofs.Common.{◌&&◌, IsTrue, sym, subst, ◌∙◌, ap, nat_lt, length}
-use Rattle.race_hub.{specs.{Hub.HubState, HubHolds.hub_state}, proofs.FiringLemmas.both_true}
+use Rattle.race_hub.{specs.{Hub.HubState, HubHolds.hub_state}, proofs.TableLemmas.both_true}
 use Rattle.race_requests.specs.{Sound.{is_sound, is_out_of_turn, has_ask, lock_suits}, Waiting.is_declared}
 use Rattle.race_requests.proofs.WaitingLemmas.{who_is_in_range, ask_is}
 use Rattle.race_hub.proofs.hub.Hub.is_out_of_turn.Goals as goal

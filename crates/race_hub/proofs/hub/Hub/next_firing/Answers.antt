@@ -44,4 +44,4 @@ returns-clause-some g c =
     let rows : HasRows h.waiting f.choice f.event f.told f.partner =
     rw (c.firing_of.ensures.choice, c.firing_of.ensures.event)
     (subst (λ ws. HasRows ws c.in-Some.choice c.in-Some-event_of.event f.told f.partner) c.requests.ensures c.firing_of.ensures.rows) in
-    (chosen, picked_firing h c.args.pick f chosen made rows c.list-list.ensures.sound c.list-list.ensures.boxes c.list-list.ensures.count)
+    (chosen, picked_firing h c.args.pick f chosen made rows c.list-list.ensures.sound c.list-list.ensures.kept c.list-list.ensures.count)

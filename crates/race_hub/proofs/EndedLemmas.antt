@@ -1,8 +1,8 @@
 -- Who left, one step on, and what becomes of a bad request.
 use Rattle.std.proofs.Common.{◌≡◌, ◌==◌, ◌||◌, ◌&&◌, not, ℕ, ◌<◌, ◌≤◌, ◌+◌, ◌++◌, Bool, true, false, cond, List, []}
-use Rattle.std.proofs.Common.{◌∷◌, Option, Some, None, refl, sym, ap, ◌∙◌, arith, true≢false, eq-eqb, zero, suc, length, subst}
+use Rattle.std.proofs.Common.{◌∷◌, Some, None, refl, sym, ap, ◌∙◌, arith, true≢false, eq-eqb, zero, suc, length, subst}
 use Rattle.std.proofs.lemmas.List.{Folds.{find-append, list_any-append}, Elements.filter-append}
-use Rattle.std.specs.{List.{count_by, find, list_any}, Prelude.is_some, Option.option_or}
+use Rattle.std.specs.{List.{count_by, find, list_any}, Option.option_or}
 use Rattle.race_records.specs.{declared.event.Event.Event, Declarations.DeclsState}
 use Rattle.race_model.{specs.Events.{is_exit, is_fault, has_exited}, proofs.CountSteps.{as_number, has_exited_push}}
 use Rattle.race_requests.specs.declared.request.{Ask.Ask, Waiter.Waiter}

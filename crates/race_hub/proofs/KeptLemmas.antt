@@ -1,15 +1,15 @@
 -- Every step of a hub goes from a kept state to a kept one.
 use Rattle.std.proofs.Common.{◌≡◌, ◌≢◌, ◌==◌, ◌&&◌, ◌||◌, not, ℕ, ◌<◌, ◌≤◌, ◌+◌, ◌-◌, ◌++◌, Bool, true, false, cond, List, []}
-use Rattle.std.proofs.Common.{◌∷◌, length, slice_get, slice_set, Option, Some, None, refl, sym, ap, ◌∙◌, subst, arith}
+use Rattle.std.proofs.Common.{◌∷◌, length, slice_get, Option, Some, None, refl, sym, ap, ◌∙◌, subst, arith}
 use Rattle.std.proofs.Common.{length-append, eq-eqb}
 use Rattle.std.proofs.lemmas.{List.length-set, Option.slice_get_within}
 use Rattle.std.specs.{List.{count_by, list_any}, Prelude.is_some}
-use Rattle.race_records.specs.{declared.event.{Event.Event, Op.Op}, Declarations.{DeclsState, capacity_of}}
+use Rattle.race_records.specs.{declared.event.{Event.Event}, Declarations.{DeclsState, capacity_of}}
 use Rattle.race_model.specs.{Events.{starts, is_exit, is_fault, has_exited}, State.started, Legal.IsLegal}
 use Rattle.race_model.proofs.{LegalSteps.legal_push, CountSteps.as_number}
 use Rattle.race_requests.specs.declared.{choice.Choice.Choice, request.{Answer.Answer, Waiter.Waiter}}
 use Rattle.race_hub.specs.{Job.JobState, Hub.HubState, Submits.{Takes, Submits, is_stray}}
-use Rattle.race_hub.specs.Fires.{Fires, partner_of, goes_on, started_by, begins, without_leaver, HasRoutine}
+use Rattle.race_hub.specs.Fires.{Fires, partner_of, goes_on, started_by, begins, HasRoutine}
 use Rattle.race_hub.specs.Kept.{standing, has_failed, has_left, is_active, has_routine, IsKept, StandOnce}
 use Rattle.race_hub.proofs.TableLemmas.{both_true, same_number, has_set, leaver_len, leaver_count, step_len}
 use Rattle.race_hub.proofs.OnceLemmas.{leaves, told_leaves, event_who, count_without, goes_count, partner_count}

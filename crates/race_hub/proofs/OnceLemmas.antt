@@ -1,7 +1,7 @@
 -- How often a goroutine stands in the lists of a hub, one step on.
 use Rattle.std.proofs.Common.{◌≡◌, ◌≢◌, ◌==◌, ◌||◌, ◌&&◌, not, ℕ, zero, suc, ◌<◌, ◌≤◌, ◌+◌, ◌-◌, ◌++◌, nat_lt, Bool}
 use Rattle.std.proofs.Common.{true, false, cond, if◌then◌else◌, List, [], ◌∷◌, length, take, Option, Some, None, refl}
-use Rattle.std.proofs.Common.{sym, ap, ◌∙◌, subst, arith, slice_get, true≢false, take_all, inl, inr, ◌⊎◌, option_map}
+use Rattle.std.proofs.Common.{sym, ap, ◌∙◌, arith, slice_get, true≢false, take_all, inl, inr, ◌⊎◌, option_map}
 use Rattle.std.proofs.{Math.Bool.or-false, lemmas.{Bool.Decides.nat_tests, List.Sums.{sum_by-append, sum_by-cons}}}
 use Rattle.std.proofs.lemmas.List.Sums.{sum_by-remove, sum_by_push, sum_by-le-sum_by}
 use Rattle.std.proofs.lemmas.Option.{none-some, slice_get_within, get_or_from_slice_get}

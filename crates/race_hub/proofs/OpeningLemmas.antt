@@ -1,6 +1,6 @@
 -- What the first state holds.
 use Rattle.std.proofs.Common.{◌≡◌, ◌==◌, ◌||◌, ◌&&◌, Bool, true, cond, ℕ, zero, suc, ◌<◌, ◌≤◌, ◌+◌, false, List, []}
-use Rattle.std.proofs.Common.{◌∷◌, length, map, Some, None, get_or, slice_get, refl, sym, ap, ◌∙◌, arith, true≢false}
+use Rattle.std.proofs.Common.{◌∷◌, length, map, Some, refl, sym, ap, ◌∙◌, arith, true≢false}
 use Rattle.std.proofs.lemmas.{Bool.Decides.nat_tests, Option.none-some}
 use Rattle.std.specs.List.{count_by}
 use Rattle.race_requests.specs.declared.request.Waiter.{Waiter}

@@ -14,7 +14,7 @@ use Rattle.race_legal.specs.{ReplayState.{ReplayState, counts_in, IsInRange}, St
 use Rattle.race_requests.specs.declared.{choice.Choice.Choice, request.{Waiter.Waiter, Answer.Answer}}
 use Rattle.race_requests.{specs.Sound.is_sound, proofs.ChoiceLemmas.all_at}
 use Rattle.race_hub.specs.{declared.ending.End.End, Hub.{HubState, stop_by, stop_of, is_last, is_main_exit}}
-use Rattle.race_hub.specs.{HubHolds.HaveRoom, Holds.Holds, Kept.{standing, is_active, IsKept}}
+use Rattle.race_hub.specs.{HubHolds.HaveRoom, Holds.Holds, Kept.{is_active, IsKept}}
 use Rattle.race_hub.specs.Fires.{Fires, without, partner_of, is_asker, without_leaver, IsPartnerRow}
 use Rattle.race_hub.proofs.{OnceLemmas.{count_without, passes, is_waiter}, EndedLemmas.kept_by}
 use Rattle.race_hub.proofs.{KeptLemmas.{fired_kept, at_most_one}, SubmitLemmas.bad_stops}

@@ -1,7 +1,7 @@
 -- Each run of a hub is kept.
-use Rattle.std.proofs.Common.{◌≡◌, ℕ, zero, suc, Bool, true, false, if◌then◌else◌, List, [], ◌∷◌, Option, Some, None, refl, sym, inl, inr}
+use Rattle.std.proofs.Common.{◌≡◌, ℕ, zero, suc, Bool, if◌then◌else◌, List, [], ◌∷◌, Option, Some, None, refl, sym, inl, inr}
 use Rattle.std.proofs.{Common.{slice_get, subst}, lemmas.Option.none-some}
-use Rattle.race_hub.specs.{declared.ending.End.End, Hub.{HubState, opening, stop_of, is_deadlock}, Fires.IsFired}
+use Rattle.race_hub.specs.{declared.ending.End.End, Hub.{HubState, opening, stop_of, is_deadlock}}
 use Rattle.race_hub.specs.{Kept.IsKept, Runs.{IsStep, AreSteps, EachRunIsKept}}
 use Rattle.race_hub.proofs.{KeptLemmas.{taken_kept, submitted_kept, fired_kept}, OpeningLemmas.opening_kept}
 use Rattle.race_hub.proofs.{FiringLemmas.picked_rows, PerformLemmas.below_limit}

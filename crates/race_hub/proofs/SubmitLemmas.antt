@@ -1,16 +1,16 @@
 -- The hub after a job was put back, or taken.
-use Rattle.std.proofs.Common.{List, ◌≡◌, ◌==◌, ◌&&◌, ◌||◌, not, ℕ, zero, suc, ◌<◌, ◌+◌, ◌++◌, Bool, true, false, if◌then◌else◌}
+use Rattle.std.proofs.Common.{List, ◌≡◌, ◌==◌, ◌&&◌, ◌||◌, not, ℕ, zero, suc, ◌<◌, ◌++◌, Bool, true, false, if◌then◌else◌}
 use Rattle.std.proofs.Common.{[], ◌∷◌, length, All, IsTrue, Option, Some, None, is_none, refl, sym, ap, ◌∙◌, subst, arith}
-use Rattle.std.proofs.{Common.{slice_get, slice_set, eq-eqb, true≢false, ◌≢◌, get_or}, lemmas.{Option.none-some, List.length-set}}
-use Rattle.std.{proofs.lemmas.List.Elements.All-append, specs.{List.{count_by, list_any, remove}, Prelude.{cond, is_some}}}
+use Rattle.std.proofs.{Common.{slice_get, eq-eqb, true≢false, ◌≢◌, get_or}, lemmas.{Option.none-some, List.length-set}}
+use Rattle.std.{proofs.lemmas.List.Elements.All-append, specs.{List.{count_by, list_any, remove}}}
 use Rattle.race_model.{proofs.CountSteps.as_number, specs.{Events.{is_fault, has_exited}, State.started}}
 use Rattle.race_legal.specs.ReplayState.{ReplayState}
 use Rattle.race_requests.specs.{declared.request.{Answer.Answer, Waiter.Waiter, Request.Request}, Sound.{is_sound, is_out_of_turn}}
 use Rattle.race_requests.proofs.ChoiceLemmas.{some_is}
 use Rattle.race_hub.specs.{declared.ending.End.End, Hub.{HubState, stop_by, stop_of, end_of, is_last, is_main_exit}}
 use Rattle.race_hub.specs.{HubHolds.HaveRoom, Holds.Holds, Job.JobState, Kept.{standing, is_active, has_failed, IsKept}}
-use Rattle.race_hub.specs.{Recording.HasBadRequest, Submits.{is_bad, is_back, is_stray, ends_hub, Takes, Submits}}
-use Rattle.race_hub.proofs.{TableLemmas.{both_true, same_number, get_set, set_other}, EndLemmas.end_while_out}
+use Rattle.race_hub.specs.{Recording.HasBadRequest, Submits.{is_bad, is_stray, ends_hub, Takes, Submits}}
+use Rattle.race_hub.proofs.{TableLemmas.{both_true, same_number}, EndLemmas.end_while_out}
 use Rattle.race_hub.proofs.EndedLemmas.{bad_stays, bad_joins, out_waits_not, standing_stays}
 use Rattle.race_hub.proofs.{KeptLemmas.{taken_kept, submitted_kept, fewer_out, at_most_one, routine_there}, OnceLemmas.{count_append, count_one, count_cons}}
 

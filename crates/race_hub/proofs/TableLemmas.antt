@@ -1,7 +1,7 @@
 -- A place of a table, and the routines and logs in it.
-use Rattle.std.proofs.Common.{◌≡◌, ◌==◌, ◌⊎◌, ℕ, zero, suc, ◌<◌, Bool, true, false, cond, List, [], ◌∷◌, length, slice_get}
-use Rattle.std.proofs.Common.{slice_set, map, Option, Some, None, refl, sym, ap, ◌∙◌, subst, arith, true≢false, eq-eqb, not, ◌+◌, ◌&&◌, ◌||◌}
-use Rattle.std.proofs.lemmas.{Bool.Decides.nat_tests, List.length-set, Option.{none-some, slice_get_within}}
+use Rattle.std.proofs.Common.{◌≡◌, ◌==◌, ℕ, zero, suc, ◌<◌, Bool, true, false, cond, List, [], ◌∷◌, length, slice_get}
+use Rattle.std.proofs.Common.{slice_set, map, Option, Some, None, refl, sym, ap, ◌∙◌, arith, true≢false, eq-eqb, not, ◌+◌, ◌&&◌, ◌||◌}
+use Rattle.std.proofs.lemmas.{Bool.Decides.nat_tests, List.length-set}
 use Rattle.std.specs.Prelude.{is_some}
 use Rattle.race_model.proofs.CountSteps.{as_number}
 use Rattle.race_requests.specs.declared.request.{Answer.Answer, Step.Step, Waiter.Waiter}

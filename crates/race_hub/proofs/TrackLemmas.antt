@@ -1,5 +1,5 @@
 -- How a trace passes along logs.
-use Rattle.std.proofs.Common.{◌≡◌, ◌≢◌, ◌==◌, ◌||◌, ◌&&◌, not, ℕ, zero, suc, ◌<◌, ◌≤◌, ◌+◌, ◌++◌, Bool, true, false}
+use Rattle.std.proofs.Common.{◌≡◌, ◌≢◌, ◌==◌, ◌||◌, ◌&&◌, not, ℕ, zero, suc, ◌≤◌, ◌+◌, ◌++◌, Bool, true, false}
 use Rattle.std.proofs.Common.{cond, if◌then◌else◌, List, [], ◌∷◌, length, slice_get, slice_set, Option, Some, None}
 use Rattle.std.proofs.Common.{refl, sym, ap, ◌∙◌, subst, arith, true≢false, length-append, append-nil, append_assoc}
 use Rattle.std.proofs.{Common.eq-eqb, lemmas.{Bool.Decides.nat_tests, Option.{none-some, slice_get_within}}}

@@ -1,4 +1,4 @@
-use Rattle.std.proofs.Common.{◌≡◌, ◌<◌, ◌∷◌, [], ◌++◌, ◌∙◌, ap, sym, subst, arith, length, map, Some, None, List}
+use Rattle.std.proofs.Common.{◌≡◌, ◌∷◌, [], ◌++◌, ◌∙◌, ap, sym, subst, arith, length, map, Some, None, List}
 use Rattle.race_requests.specs.declared.request.Answer.{Answer}
 use Rattle.race_hub.specs.{Hub.{HubState, opening}, Holds.Holds}
 use Rattle.race_hub.proofs.OpeningLemmas.{holds_opening, first_of, nobody_waits}

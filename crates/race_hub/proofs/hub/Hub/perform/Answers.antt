@@ -1,6 +1,6 @@
-use Rattle.std.proofs.Common.{◌≡◌, ◌-◌, None, ◌∙◌, sym, subst, ap, refl, arith}
-use Rattle.race_hub.specs.{Hub.{HubState, stop_of}, HubHolds.{HaveRoom, hub_state}, Holds.Holds, Firing.IsFiring}
-use Rattle.race_hub.specs.Fires.{Fires, started_by, goes_on, begins, without_leaver, IsPartnerRow}
+use Rattle.std.proofs.Common.{◌≡◌, ◌-◌, None, ◌∙◌, sym, subst, refl, arith}
+use Rattle.race_hub.specs.{Hub.{HubState, stop_of}, HubHolds.{hub_state}, Firing.IsFiring}
+use Rattle.race_hub.specs.Fires.{Fires, IsPartnerRow}
 use Rattle.race_hub.proofs.PerformLemmas.{fit_is_in_range, below_limit, asker_within, asker_room, other_within, other_room}
 use Rattle.race_hub.proofs.PerformLemmas.{rest_room, partner_keeps, fired}
 use Rattle.race_requests.{specs.Table.{IsRow, done_by}, proofs.ChoiceLemmas.some_is}

@@ -1,7 +1,7 @@
 use Rattle.std.proofs.Common.{◌≡◌, ◌==◌, ◌++◌, ◌∷◌, [], ◌∙◌, ◌&&◌, Bool, true, false, Result, Ok, Err, ap, not, subst, refl, arith}
 use Rattle.std.proofs.Common.{sym, Some, OnOk, if◌then◌else◌, is_none, slice_set}
 use Rattle.std.specs.List.{list_any}
-use Rattle.race_requests.specs.{declared.request.Waiter.Waiter, Sound.is_bad_among}
+use Rattle.race_requests.specs.{Sound.is_bad_among}
 use Rattle.race_hub.specs.{Hub.{HubState, stop_of}, HubHolds.hub_state, Submits.{is_back, ends_hub, without_first, Submits}}
 use Rattle.race_hub.proofs.{KeptLemmas.{was_out, out_within}, SubmitLemmas.{submitted, ends_test, room_joined}}
 use Rattle.race_hub.proofs.hub.Hub.submit.Given as given

@@ -1,7 +1,7 @@
 use Rattle.std.proofs.{lemmas.Grind.common_steps, Common.{◌≡◌, ◌==◌, ◌<◌, ◌∷◌, ◌∙◌, Option, Some, None, false, sym, ap, subst, refl, arith}}
 use Rattle.std.proofs.{Common.{length, slice_set}, lemmas.{Bool.Decides.nat_tests, Option.{none-some, slice_get-get_or, get_or_from_slice_get}}}
 use Rattle.std.specs.Prelude.{is_some}
-use Rattle.race_hub.specs.{Hub.{HubState, stop_of, end_of}, HubHolds.hub_state, Submits.Takes}
+use Rattle.race_hub.specs.{Hub.{HubState, stop_of}, HubHolds.hub_state, Submits.Takes}
 use Rattle.race_hub.proofs.{EndLemmas.end_while_ready, SubmitLemmas.{taken, first_ready, front_of, room_taken}}
 use Rattle.race_hub.proofs.hub.Hub.take.Given as given
 use Rattle.race_hub.proofs.hub.Hub.take.Goals as goal

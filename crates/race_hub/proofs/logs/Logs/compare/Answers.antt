@@ -1,5 +1,5 @@
-use Rattle.std.proofs.Common.{◌≡◌, ◌∙◌, ◌≤◌, length, sym, ap, subst, arith, Some, None}
-use Rattle.race_hub.specs.{Logs.{LogsState, logs_in}, Finish.IsLeastOther, Tracks.{TrackState, IsFirstOther}}
+use Rattle.std.proofs.Common.{◌∙◌, length, ap, subst, arith}
+use Rattle.race_hub.specs.{Logs.{LogsState}, Finish.IsLeastOther, Tracks.{TrackState, IsFirstOther}}
 use Rattle.race_hub.proofs.{TableLemmas.length_map, LogsLemmas.{passed_logs, all_tracked, parts_are, other_is, other_told}}
 use Rattle.race_hub.proofs.logs.Logs.compare.Goals as goal
 

@@ -1,4 +1,4 @@
-use Rattle.std.proofs.Common.{◌≡◌, ◌∙◌, ◌++◌, ◌∷◌, [], List, Option, Some, true, sym, ap, unwrap_or, slice_get, length, arith}
+use Rattle.std.proofs.Common.{◌≡◌, ◌∙◌, ◌++◌, ◌∷◌, [], List, Option, Some, true, sym, ap, unwrap_or, slice_get, arith}
 use Rattle.std.proofs.lemmas.Option.{slice_get_within}
 use Rattle.race_hub.specs.{Logs.LogsState, Tracks.TrackState}
 use Rattle.race_hub.proofs.{TableLemmas.length_map, LogsLemmas.{read_at, set_log, log_there, rooms_of, keeps_rooms}}

@@ -231,7 +231,7 @@ impl Growing for Row {
 }
 
 // The judge by one shard takes eight lists: four of the replay, for goroutines and variables, the list of shards, one for
-// the shard's clocks, one for what is kept of its variables, and the races. A second shard takes two of its own. What
+// the shard's clocks, one for what is kept of its variables, and the races, of a verdict twice. A second shard takes two of its own. What
 // is kept of a line that comes in pieces grows twice. The log of each of a run's two goroutines takes three. A judged
 // run takes what the run takes, and then what its judge does. Workers take a copy of the declarations besides. A witness
 // takes four lists more for another replay, one for the clocks of each of three walks, and one for its order. A drawing takes
@@ -243,15 +243,15 @@ static ENGINES: [(Row, u64); 14] = [
     (Row(Engine::CheckPieces(TRACE, 1), CHECKED), 25),
     (Row(Engine::Check(Judging::Plain), CHECKED), 26),
     (Row(Engine::Edges, LISTED), 21),
-    (Row(Engine::Run(None), RUN_BY_PICKS), 51),
-    (Row(Engine::Run(Some(1)), RUN_BY_WORKERS), 64),
-    (Row(Engine::Run(Some(2)), RUN_BY_WORKERS), 64),
-    (Row(Engine::Race(None, Judging::Shards(1)), RACED), 59),
-    (Row(RACE_BY_TWO, RACED_BY_WORKERS), 74),
-    (Row(Engine::Race(None, Judging::Plain), RACED), 62),
-    (Row(Engine::Witness, SHOWN), 31),
-    (Row(Engine::Draw(false), DRAWN), 36),
-    (Row(Engine::Draw(true), DRAWN_AS_SVG), 36),
+    (Row(Engine::Run(None), RUN_BY_PICKS), 49),
+    (Row(Engine::Run(Some(1)), RUN_BY_WORKERS), 62),
+    (Row(Engine::Run(Some(2)), RUN_BY_WORKERS), 62),
+    (Row(Engine::Race(None, Judging::Shards(1)), RACED), 58),
+    (Row(RACE_BY_TWO, RACED_BY_WORKERS), 73),
+    (Row(Engine::Race(None, Judging::Plain), RACED), 60),
+    (Row(Engine::Witness, SHOWN), 32),
+    (Row(Engine::Draw(false), DRAWN), 37),
+    (Row(Engine::Draw(true), DRAWN_AS_SVG), 37),
 ];
 
 const RACE_BY_TWO: Engine = Engine::Race(Some(2), Judging::Shards(2));

@@ -151,16 +151,17 @@ impl Growing for Row {
 
 // A judge takes six lists for its replay (four for goroutines and variables, two for locks), one for its shards, and for
 // each shard the clocks of its goroutines, a list for its locks, and what is kept of its variables. The first unlock of a
-// mutex makes each shard's stamper grow, and at the end there is the list of races.
+// mutex makes each shard's stamper grow. At the end there is the list of races with what is printed of them, and of a
+// verdict the list of races alone.
 static CALLS: [(Row, u64); 8] = [
     (Row(Call::New, 1), 10),
     (Row(Call::New, 2), 13),
     (Row(Call::Feed, 1), 1),
     (Row(Call::Feed, 2), 2),
-    (Row(Call::Finish, 2), 1),
+    (Row(Call::Finish, 2), 2),
     (Row(Call::FinishNoted, 2), 1),
-    (Row(Call::Judge, 1), 12),
-    (Row(Call::Judge, 2), 16),
+    (Row(Call::Judge, 1), 13),
+    (Row(Call::Judge, 2), 17),
 ];
 
 #[test]

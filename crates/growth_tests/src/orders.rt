@@ -90,12 +90,12 @@ impl Growing for Row {
 }
 
 // A judge takes six lists for its replay, one for its shards, two for clocks and locks, one for what is kept of the variables, one
-// more at the first unlock of a mutex, and the races. A witness takes six lists for the replay, two for the stamper of each of
+// more at the first unlock of a mutex, and two of the races. A witness takes six lists for the replay, two for the stamper of each of
 // three walks, one more for the first unlock of a mutex in each of the two that go to the end, and the order.
 static CALLS: [(Row, u64); 4] = [
     (Row(Call::Edges, ONE_RACE), 10),
     (Row(Call::PlainJudge, ONE_RACE), 16),
-    (Row(Call::JudgeAlone, TWO_RACES), 12),
+    (Row(Call::JudgeAlone, TWO_RACES), 13),
     (Row(Call::Witness, TWO_RACES), 15),
 ];
 

@@ -8,16 +8,13 @@ use Rattle.race_script.proofs.StuckLemmas.{stuck_behind, runs}
 use Rattle.race_script.proofs.certificate.stuck_at.Goals as goal
 
 pub loop-k-init : goal.loop-k-init
-loop-k-init g c =
-    along_none (spelled c.decls.result.now.places c.body.result.now.items) c.decls-2.result.now.places
-    c.args.goroutine (part_of c.args.goroutine c.args.recording.now.events)
+loop-k-init g c = along_none _ _ _ _
 
 pub loop-k-preserved : goal.loop-k-preserved
 loop-k-preserved g c =
-    let who = c.args.goroutine in
+    let who = c.args.goroutine in let events = c.args.recording.now.events in
     let own = spelled c.decls.result.now.places c.body.result.now.items in
     let places = c.decls-2.result.now.places in
-    let events = c.args.recording.now.events in
     let e = event_of who c.logs-log.result.now.items events c.last_fault.result c.loop-k.k c.step.result c.logs-log.ensures.part
     (λ n e at. c.last_fault.ensures n e (ap (λ (es : List Event). slice_get es n) c.trace-trace.ensures.events ∙ at)) c.step.ensures in
     along_next own places who (part_of who events) c.loop-k.k c.loop-k.position c.in-Some.behind e.0 e.1 c.loop-k.invariant
@@ -25,25 +22,21 @@ loop-k-preserved g c =
 
 pub returns-in-None : goal.returns-in-None
 returns-in-None g c =
-    let who = c.args.goroutine in
+    let who = c.args.goroutine in let events = c.args.recording.now.events in
     let own = spelled c.decls.result.now.places c.body.result.now.items in
     let places = c.decls-2.result.now.places in
-    let events = c.args.recording.now.events in
     let e = event_of who c.logs-log.result.now.items events c.last_fault.result c.loop-k.k c.step.result c.logs-log.ensures.part
     (λ n e at. c.last_fault.ensures n e (ap (λ (es : List Event). slice_get es n) c.trace-trace.ensures.events ∙ at)) c.step.ensures in
     stops_so c.args.program.now c.args.recording.now who c.decls.result.now c.decls-2.result.now c.body.result.now.items
     c.decls.ensures.decls (c.decls-2.ensures.decls ∙ c.trace-trace.ensures.decls) c.body.ensures.body (Some c.loop-k.position)
-    (stuck_inside own places who (part_of who events) (waiting_of who c.args.recording.now.waiting) c.loop-k.k c.loop-k.position e.0 e.1 c.loop-k.invariant
-    (subst (IsPassed own places who c.loop-k.position e.0) c.in-None.is (c.passed.ensures e.0 e.2 e.3)))
+    (stuck_inside _ _ _ _ _ _ _ e.0 e.1 c.loop-k.invariant (subst (IsPassed own places who c.loop-k.position e.0) c.in-None.is (c.passed.ensures e.0 e.2 e.3)))
 
 pub returns-then-waits : goal.returns-then-waits
 returns-then-waits g c =
     let who = c.args.goroutine in
     let own = spelled c.decls.result.now.places c.body.result.now.items in
     let places = c.decls-2.result.now.places in
-    let many = c.logs-log.ensures.part.as_many in
-    let end = c.loop-k-test.false in
-    let count = c.len-k-end.ensures in
+    let many = c.logs-log.ensures.part.as_many in let end = c.loop-k-test.false in let count = c.len-k-end.ensures in
     stops_so c.args.program.now c.args.recording.now who c.decls.result.now c.decls-2.result.now c.body.result.now.items
     c.decls.ensures.decls (c.decls-2.ensures.decls ∙ c.trace-trace.ensures.decls) c.body.ensures.body None
     (runs own places who (part_of who c.args.recording.now.events) (waiting_of who c.args.recording.now.waiting) c.loop-k.k c.loop-k.position
@@ -55,9 +48,7 @@ returns-else-waits g c =
     let who = c.args.goroutine in
     let own = spelled c.decls.result.now.places c.body.result.now.items in
     let places = c.decls-2.result.now.places in
-    let many = c.logs-log.ensures.part.as_many in
-    let end = c.loop-k-test.false in
-    let count = c.len-k-end.ensures in
+    let many = c.logs-log.ensures.part.as_many in let end = c.loop-k-test.false in let count = c.len-k-end.ensures in
     stops_so c.args.program.now c.args.recording.now who c.decls.result.now c.decls-2.result.now c.body.result.now.items
     c.decls.ensures.decls (c.decls-2.ensures.decls ∙ c.trace-trace.ensures.decls) c.body.ensures.body (Some c.loop-k.position)
     (stuck_behind own places who (part_of who c.args.recording.now.events) (waiting_of who c.args.recording.now.waiting) c.loop-k.k c.loop-k.position

@@ -1,5 +1,6 @@
 -- The table of what asks say, and its way back; and the table of the words of lines.
 use Rattle.std.proofs.Common.{◌≡◌, ℕ, ◌^◌, ◌&&◌, Bool, true, false, true≢false, nat_lt, if◌then◌else◌, List, [], ◌∷◌}
+use Rattle.std.proofs.Math.Bool.{and-true}
 use Rattle.std.proofs.Common.{◌++◌, map, codes, Option, Some, None, IfSome, option_map, refl, sym, ap, subst, ◌∙◌}
 use Rattle.std.{proofs.lemmas.{Option.{none-some, same_Some}, Slice.Eq.bytes_eq-Decides}, specs.List.list_all}
 use Rattle.std.specs.{Option.option_and_then, Str.bytes_eq}
@@ -10,6 +11,7 @@ use Rattle.race_records.specs.Parts.{object_value, suit, part_fits, part_is_limi
 use Rattle.race_records.proofs.PartLaws.{named_by, alone_again, valued_again}
 use Rattle.race_requests.specs.{declared.request.{Ask.Ask, Offer.Offer}, Sound.has_ask}
 use Rattle.race_text.specs.{declared.form.Word.Word, Fault.declared_as, Form.word_named, Writing.{noun_text, part_text}}
+use Rattle.race_text.specs.Select.{nil}
 use Rattle.race_text.proofs.{WantedParts.are_wanted, WordLemmas.both}
 use Rattle.race_script.specs.{declared.form.{AskWord.AskWord, LineWord.LineWord, TheConstants.BODY_WORDS}, Form.lookup}
 use Rattle.race_script.specs.Form.{noun_or, line_word, has_ask_word, has_line_word, as_had, line_word_in, word_on_nil}
@@ -56,26 +58,36 @@ selects_alone (Ask.Close None) h = absurd (none-some _ (sym h))
 selects_alone (Ask.Close (Some c)) h = absurd (none-some _ (sym h))
 selects_alone _ h = absurd (none-some _ (sym h))
 
+-- the bytes of the first word of a line
+abbrev pub first_text : LineWord → List ℕ
+first_text (LineWord.Declares noun) = noun_text noun
+first_text LineWord.Begins = codes "body"
+first_text LineWord.Selects = codes "select"
+first_text (LineWord.Asks AskWord.Go) = codes "go"
+first_text (LineWord.Asks AskWord.Exit) = codes "exit"
+first_text (LineWord.Asks AskWord.Read) = codes "read"
+first_text (LineWord.Asks AskWord.Write) = codes "write"
+first_text (LineWord.Asks AskWord.Send) = codes "send"
+first_text (LineWord.Asks AskWord.SendNil) = []
+first_text (LineWord.Asks AskWord.Recv) = codes "recv"
+first_text (LineWord.Asks AskWord.RecvNil) = []
+first_text (LineWord.Asks AskWord.Close) = codes "close"
+first_text (LineWord.Asks AskWord.CloseNil) = []
+first_text (LineWord.Asks AskWord.Lock) = codes "lock"
+first_text (LineWord.Asks AskWord.Unlock) = codes "unlock"
+first_text (LineWord.Asks AskWord.RLock) = codes "rlock"
+first_text (LineWord.Asks AskWord.RUnlock) = codes "runlock"
+first_text (LineWord.Asks AskWord.TryLock) = codes "trylock"
+first_text (LineWord.Asks AskWord.TryRLock) = codes "tryrlock"
+first_text (LineWord.Asks AskWord.Do) = codes "do"
+first_text (LineWord.Asks AskWord.EndDo) = codes "enddo"
+
 -- the words in front of the parts
 abbrev pub front_words : AskWord → List (List ℕ)
-front_words AskWord.Go = codes "go" ∷ []
-front_words AskWord.Exit = codes "exit" ∷ []
-front_words AskWord.Read = codes "read" ∷ []
-front_words AskWord.Write = codes "write" ∷ []
-front_words AskWord.Send = codes "send" ∷ []
-front_words AskWord.SendNil = codes "send" ∷ codes "nil" ∷ []
-front_words AskWord.Recv = codes "recv" ∷ []
-front_words AskWord.RecvNil = codes "recv" ∷ codes "nil" ∷ []
-front_words AskWord.Close = codes "close" ∷ []
-front_words AskWord.CloseNil = codes "close" ∷ codes "nil" ∷ []
-front_words AskWord.Lock = codes "lock" ∷ []
-front_words AskWord.Unlock = codes "unlock" ∷ []
-front_words AskWord.RLock = codes "rlock" ∷ []
-front_words AskWord.RUnlock = codes "runlock" ∷ []
-front_words AskWord.TryLock = codes "trylock" ∷ []
-front_words AskWord.TryRLock = codes "tryrlock" ∷ []
-front_words AskWord.Do = codes "do" ∷ []
-front_words AskWord.EndDo = codes "enddo" ∷ []
+front_words AskWord.SendNil = codes "send" ∷ nil ∷ []
+front_words AskWord.RecvNil = codes "recv" ∷ nil ∷ []
+front_words AskWord.CloseNil = codes "close" ∷ nil ∷ []
+front_words word = first_text (LineWord.Asks word) ∷ []
 
 -- the words of an ask are those that it says
 pub ask_words_are : (ds : List Declaration) (place : List ℕ) (ask : Ask)
@@ -181,42 +193,16 @@ ask_is_there _ _ e = absurd (true≢false (sym e))
 abbrev pub parts_fit : List Declaration → List PartKind → List Part → Bool
 parts_fit ds kinds parts = list_all (part_fits ds) parts && list_all part_is_limited parts && are_wanted ds kinds parts
 
-one : (x : Bool) → ((x && true) && true) ≡ (((x && true) && true) && true)
-one true = refl
-one false = refl
-
-locked : (x y : Bool) → ((x && y) && true) ≡ (((x && true) && true) && (y && true))
-locked true true = refl
-locked true false = refl
-locked false true = refl
-locked false false = refl
-
-valued : (x z : Bool) → ((x && true) && z) ≡ (((x && true) && (z && true)) && true)
-valued true true = refl
-valued true false = refl
-valued false true = refl
-valued false false = refl
-
 pub fits_are : (ds : List Declaration) (ask : Ask) → IfSome (ask_says ask) (λ said. ask_fits ds ask ≡ parts_fit ds (ask_kinds said.0) said.1)
-fits_are ds (Ask.Go h) = one (nat_lt h (counts_of ds Kind.Goroutine))
-fits_are ds Ask.Exit = refl
-fits_are ds (Ask.Read x) = one (nat_lt x (counts_of ds Kind.Var))
-fits_are ds (Ask.Write x v) = valued (nat_lt x (counts_of ds Kind.Var)) (nat_lt v (2 ^ 64))
-fits_are ds (Ask.Send (Some c) v) = valued (nat_lt c (counts_of ds Kind.Chan)) (nat_lt v (2 ^ 64))
-fits_are ds (Ask.Send None v) = valued true (nat_lt v (2 ^ 64))
-fits_are ds (Ask.Recv (Some c)) = one (nat_lt c (counts_of ds Kind.Chan))
+fits_are ds (Ask.Send (Some c) v) = simp and-true
+fits_are ds (Ask.Send None v) = simp and-true
+fits_are ds (Ask.Recv (Some c)) = simp and-true
 fits_are ds (Ask.Recv None) = refl
-fits_are ds (Ask.Close (Some c)) = one (nat_lt c (counts_of ds Kind.Chan))
+fits_are ds (Ask.Close (Some c)) = simp and-true
 fits_are ds (Ask.Close None) = refl
+fits_are ds Ask.Exit = refl
 fits_are ds (Ask.Select offers has_default) = tt
-fits_are ds (Ask.Lock l) = one (nat_lt l (counts_of ds Kind.Lock))
-fits_are ds (Ask.Unlock l) = one (nat_lt l (counts_of ds Kind.Lock))
-fits_are ds (Ask.RLock l) = locked (nat_lt l (counts_of ds Kind.Lock)) (is_rw ds l)
-fits_are ds (Ask.RUnlock l) = locked (nat_lt l (counts_of ds Kind.Lock)) (is_rw ds l)
-fits_are ds (Ask.TryLock l) = one (nat_lt l (counts_of ds Kind.Lock))
-fits_are ds (Ask.TryRLock l) = locked (nat_lt l (counts_of ds Kind.Lock)) (is_rw ds l)
-fits_are ds (Ask.Do o) = one (nat_lt o (counts_of ds Kind.Once))
-fits_are ds (Ask.EndDo o) = one (nat_lt o (counts_of ds Kind.Once))
+fits_are ds _ = simp and-true
 
 -- a version has an ask just where it has its word
 pub had_by_word : (version : Version) (ask : Ask) → IfSome (ask_says ask) (λ said. has_ask version ask ≡ has_ask_word version said.0)
@@ -255,30 +241,6 @@ found_is_had version w word h = by (line_word w) refl h
 pub had_is_found : (version : Version) (w : List ℕ) (word : LineWord) → line_word w ≡ Some word → has_line_word version word ≡ true
     → line_word_in version w ≡ Some word
 had_is_found version w word is has = ap (option_and_then (as_had version)) is ∙ ap (λ b. if b then Some word else None) has
-
--- the bytes of the first word of a line
-abbrev pub first_text : LineWord → List ℕ
-first_text (LineWord.Declares noun) = noun_text noun
-first_text LineWord.Begins = codes "body"
-first_text LineWord.Selects = codes "select"
-first_text (LineWord.Asks AskWord.Go) = codes "go"
-first_text (LineWord.Asks AskWord.Exit) = codes "exit"
-first_text (LineWord.Asks AskWord.Read) = codes "read"
-first_text (LineWord.Asks AskWord.Write) = codes "write"
-first_text (LineWord.Asks AskWord.Send) = codes "send"
-first_text (LineWord.Asks AskWord.SendNil) = []
-first_text (LineWord.Asks AskWord.Recv) = codes "recv"
-first_text (LineWord.Asks AskWord.RecvNil) = []
-first_text (LineWord.Asks AskWord.Close) = codes "close"
-first_text (LineWord.Asks AskWord.CloseNil) = []
-first_text (LineWord.Asks AskWord.Lock) = codes "lock"
-first_text (LineWord.Asks AskWord.Unlock) = codes "unlock"
-first_text (LineWord.Asks AskWord.RLock) = codes "rlock"
-first_text (LineWord.Asks AskWord.RUnlock) = codes "runlock"
-first_text (LineWord.Asks AskWord.TryLock) = codes "trylock"
-first_text (LineWord.Asks AskWord.TryRLock) = codes "tryrlock"
-first_text (LineWord.Asks AskWord.Do) = codes "do"
-first_text (LineWord.Asks AskWord.EndDo) = codes "enddo"
 
 abbrev table : List (List ℕ × LineWord)
 table = map (λ entry. (entry.0.now, entry.1)) BODY_WORDS

@@ -106,19 +106,7 @@ ends_within depth (p ∷ onces) (Ask.EndDo o ∷ asks) deep h = by (depth == 0) 
         let len = ap length is in
         let before = rest on.0 (omega (arith, deep, more, len)) on.2 in
         omega (arith, before)
-ends_within depth onces (Ask.Go g ∷ asks) deep h = let rest = ends_within depth onces asks deep h in omega (arith, rest)
-ends_within depth onces (Ask.Read x ∷ asks) deep h = let rest = ends_within depth onces asks deep h in omega (arith, rest)
-ends_within depth onces (Ask.Write x v ∷ asks) deep h = let rest = ends_within depth onces asks deep h in omega (arith, rest)
-ends_within depth onces (Ask.Send c v ∷ asks) deep h = let rest = ends_within depth onces asks deep h in omega (arith, rest)
-ends_within depth onces (Ask.Recv c ∷ asks) deep h = let rest = ends_within depth onces asks deep h in omega (arith, rest)
-ends_within depth onces (Ask.Close c ∷ asks) deep h = let rest = ends_within depth onces asks deep h in omega (arith, rest)
-ends_within depth onces (Ask.Select offers has_default ∷ asks) deep h = let rest = ends_within depth onces asks deep h in omega (arith, rest)
-ends_within depth onces (Ask.Lock l ∷ asks) deep h = let rest = ends_within depth onces asks deep h in omega (arith, rest)
-ends_within depth onces (Ask.Unlock l ∷ asks) deep h = let rest = ends_within depth onces asks deep h in omega (arith, rest)
-ends_within depth onces (Ask.RLock l ∷ asks) deep h = let rest = ends_within depth onces asks deep h in omega (arith, rest)
-ends_within depth onces (Ask.RUnlock l ∷ asks) deep h = let rest = ends_within depth onces asks deep h in omega (arith, rest)
-ends_within depth onces (Ask.TryLock l ∷ asks) deep h = let rest = ends_within depth onces asks deep h in omega (arith, rest)
-ends_within depth onces (Ask.TryRLock l ∷ asks) deep h = let rest = ends_within depth onces asks deep h in omega (arith, rest)
+ends_within depth onces (_ ∷ asks) deep h = let rest = ends_within depth onces asks deep h in omega (arith, rest)
 
 abbrev begins : Option Ask → Bool
 begins o = option_map_or is_do o false

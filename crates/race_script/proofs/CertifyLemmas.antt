@@ -3,11 +3,13 @@ use Rattle.std.proofs.Common.{◌≡◌, ℕ, ◌+◌, ◌<◌, ◌≤◌, ◌==
 use Rattle.std.proofs.Common.{Some, None, refl, sym, ap, subst, ◌∙◌, arith, true≢false, eq-eqb}
 use Rattle.std.proofs.lemmas.{Bool.Decides.nat_tests, Option.slice_get_within}
 use Rattle.race_records.{proofs.ListLemmas.slice_get-within, specs.Equality.{Declared, declared, same_declared}}
+use Rattle.race_records.specs.Equality.{same_decls}
+use Rattle.race_records.specs.Declarations.{DeclsState}
 use Rattle.race_records.specs.Equality.{same_declared-Decides}
 use Rattle.race_requests.specs.declared.request.Request.{Request}
 use Rattle.race_hub.specs.{Part.part_of, Recording.RecordingState}
 use Rattle.race_script.specs.{declared.certificate.NotARun.NotARun, Certificate.{Runs, waiting_of, IsCertified}}
-use Rattle.race_script.specs.{Certificate.IsStuck, Course.IsStop, Program.{ProgramState, spelled}}
+use Rattle.race_script.specs.{Certificate.IsStuck, Course.IsStop, Program.{ProgramState, Instruction, spelled}}
 use Rattle.race_script.proofs.CourseLemmas.{runs_or_stuck}
 
 -- the test says that the version is another, or that something else is declared
@@ -26,6 +28,12 @@ alike_declared d e told = (same_declared-Decides d e).0 (by (same_declared d e) 
     by true told = refl
     by false told = absurd (true≢false (sym told))
 
+-- so the same is declared by a program and a recording
+pub both_declare : (p : ProgramState) (r : RecordingState) (traced own others : DeclsState)
+    → own ≡ traced → traced ≡ r.decls → others ≡ p.decls → false ≡ not (same_decls own others) → declared r.decls ≡ declared p.decls
+both_declare p r traced own others is was are told =
+    ap declared (sym (is ∙ was)) ∙ alike_declared (declared own) (declared others) told ∙ ap declared are
+
 module _ (p : ProgramState) (r : RecordingState) where
   -- so many goroutines run their bodies
   abbrev pub RunBelow : ℕ → Type 0
@@ -35,6 +43,14 @@ module _ (p : ProgramState) (r : RecordingState) where
   abbrev pub Stops : ℕ → Option ℕ → Type 0
   Stops g stop = (body : List Request) → slice_get p.bodies g ≡ Some body
       → IsStop (spelled p.decls.places body) r.decls.places g (part_of g r.events) (waiting_of g r.waiting) stop
+
+  -- the same of the declarations and the body that the code has
+  pub stops_so : (g : ℕ) (own others : DeclsState) (body : List Request) → own ≡ p.decls → others ≡ r.decls → slice_get p.bodies g ≡ Some body
+      → (stop : Option ℕ) → IsStop (spelled own.places body) others.places g (part_of g r.events) (waiting_of g r.waiting) stop → Stops g stop
+  stops_so g own others body is are at stop stops whole found =
+      let same : body ≡ whole = cc in
+      subst (λ (x : List Instruction × List (List ℕ)). IsStop x.0 x.1 g (part_of g r.events) (waiting_of g r.waiting) stop)
+      (λ k. (spelled (is k).places (same k), (are k).places)) stops
 
   pub one_runs : (g : ℕ) → RunBelow g → Stops g None → RunBelow (g + 1)
   one_runs g below own h body less at = by (h == g) refl

@@ -36,17 +36,6 @@ module _ (body : List Instruction) (places : List (List ℕ)) (g : ℕ) where
             (subst (FitsAt body places g (behind (asked_by body) events)) (sym last.1) fits)
       ]
 
-  -- the same of the front of a part
-  pub follows_next : (part : List Event) (k : ℕ) (e : Event) (p q : ℕ) → slice_get part k ≡ Some e → Follows body places g (take k part)
-      → p ≡ behind (asked_by body) (take k part) → FitsAt body places g p e → q ≡ after_event (asked_by body) p e.op
-      → Follows body places g (take (k + 1) part) × (q ≡ behind (asked_by body) (take (k + 1) part))
-  follows_next part k e p q at follows here fits there =
-      let next = take_next part k e at in (
-        subst (Follows body places g) (sym next) (follows_push (take k part) e follows (subst (λ p. FitsAt body places g p e) here fits)),
-        there ∙ ap (λ p. after_event (asked_by body) p e.op) here ∙ sym (behind_push (asked_by body) (take k part) e)
-            ∙ ap (behind (asked_by body)) (sym next),
-      )
-
   -- who runs its body is stuck nowhere
   pub runs_or_stuck : (part : List Event) (waiting : Option Request) (p : ℕ) → IsRun body places g part waiting → IsStuckAt body places g part waiting p → ⊥
   runs_or_stuck part waiting p run (inl (n, e, at, before, here, misfit)) = misfit (subst (λ p. FitsAt body places g p e) (sym here) (run.follows n e at))

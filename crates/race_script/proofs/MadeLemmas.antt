@@ -137,56 +137,29 @@ row_made (Ask.TryLock l) k op told fault row fails = trier_made fault l k op tol
 row_made (Ask.TryRLock l) k op told fault row fails = rtrier_made fault l k op told row
 row_made ask k op told fault row fails = first_made fault ask op told (by_first k (told_by ask op) told row).1 fails
 
--- what a goroutine did in an event is the event's operation, but for a meet
-done_or_meet : (g : ℕ) (op : Op) → (done_by g op ≡ op) ⊎ ((r : ℕ) × (c : ℕ) × (v : ℕ) × (op ≡ Meet r c v))
-done_or_meet g (Meet r c v) = inr (r, c, v, refl)
-done_or_meet g (Go h) = inl refl
-done_or_meet g Exit = inl refl
-done_or_meet g (Read x v) = inl refl
-done_or_meet g (Write x v) = inl refl
-done_or_meet g (Send c v) = inl refl
-done_or_meet g (Recv c v) = inl refl
-done_or_meet g (RecvClosed c) = inl refl
-done_or_meet g (Close c) = inl refl
-done_or_meet g (Default cases) = inl refl
-done_or_meet g (Lock l) = inl refl
-done_or_meet g (Unlock l) = inl refl
-done_or_meet g (RLock l) = inl refl
-done_or_meet g (RUnlock l) = inl refl
-done_or_meet g (TryLock l) = inl refl
-done_or_meet g (TryRLock l) = inl refl
-done_or_meet g (TryFail l) = inl refl
-done_or_meet g (OnceBegin o) = inl refl
-done_or_meet g (OnceEnd o) = inl refl
-done_or_meet g (OnceDone o) = inl refl
-done_or_meet g (Fault cause) = inl refl
-
--- who did that did it by itself
+-- who did what it did did it by itself
 pub done_again : (g : ℕ) (op : Op) → done_by g (done_by g op) ≡ done_by g op
-done_again g op = elim (done_or_meet g op) [
-  | inl is ↦ ap (done_by g) is
-  | inr (r, c, v, is) ↦ subst (λ op. done_by g (done_by g op) ≡ done_by g op) (sym is) (by r c v (r == g))
-] where
-  by : (r c v : ℕ) (b : Bool) → done_by g (cond b (Recv c v) (Send c v)) ≡ cond b (Recv c v) (Send c v)
-  by r c v true = refl
-  by r c v false = refl
+done_again g (Meet r c v) = by (r == g)
+  where
+    by : (b : Bool) → done_by g (cond b (Recv c v) (Send c v)) ≡ cond b (Recv c v) (Send c v)
+    by true = refl
+    by false = refl
+done_again g _ = refl
 
 -- and it goes as far along a body
 pub after_done : (asks : List Ask) (p g : ℕ) (op : Op) → after_event asks p (done_by g op) ≡ after_event asks p op
-after_done asks p g op = elim (done_or_meet g op) [
-  | inl is ↦ ap (after_event asks p) is
-  | inr (r, c, v, is) ↦ subst (λ op. after_event asks p (done_by g op) ≡ after_event asks p op) (sym is) (by r c v (r == g))
-] where
-  by : (r c v : ℕ) (b : Bool) → after_event asks p (cond b (Recv c v) (Send c v)) ≡ p + 1
-  by r c v true = refl
-  by r c v false = refl
+after_done asks p g (Meet r c v) = by (r == g)
+  where
+    by : (b : Bool) → after_event asks p (cond b (Recv c v) (Send c v)) ≡ p + 1
+    by true = refl
+    by false = refl
+after_done asks p g _ = refl
 
 -- and fails by the same
 pub fails_done : (fault : Option Cause) (g : ℕ) (op : Op) → FailsBy fault op → FailsBy fault (done_by g op)
-fails_done fault g op fails = elim (done_or_meet g op) [
-  | inl is ↦ (λ cause fault_is. fails cause (sym is ∙ fault_is))
-  | inr (r, c, v, is) ↦ (λ cause fault_is. absurd (by r c v (r == g) cause (ap (done_by g) (sym is) ∙ fault_is)))
-] where
-  by : (r c v : ℕ) (b : Bool) (cause : Cause) → cond b (Recv c v) (Send c v) ≡ Fault cause → ⊥
-  by r c v true cause is = cc
-  by r c v false cause is = cc
+fails_done fault g (Meet r c v) fails cause is = by (r == g) is
+  where
+    by : (b : Bool) → cond b (Recv c v) (Send c v) ≡ Fault cause → fault ≡ Some cause
+    by true is = absurd cc
+    by false is = absurd cc
+fails_done fault g _ fails cause is = fails cause is

@@ -17,12 +17,12 @@ can_make_done g ask op (k, told, row) = (k, told, subst (λ o. IsRow ask k o tol
 can_make_event : (g : ℕ) (ask : Ask) (op : Op) → CanMake g ask op → CanMake g ask (done_by g op)
 can_make_event g ask op (k, told, row) = (k, told, subst (λ o. IsRow ask k o told) (sym (done_again g op)) row)
 
-module _ (places recorded : List (List ℕ)) (body : List Request) (g p : ℕ) (step : Step) (fault : Option Cause) (e : Event)
-    (fits : Fits g step e) (fails : FailsBy fault e.op) where
-  -- what was made in the step is what g did in the event
-  pub made_is : (made : Option Op) → made ≡ made_in step.asked.ask step.told fault → made ≡ Some (done_by g e.op)
-  made_is made is = is ∙ row_made step.asked.ask fits.1.0 (done_by g e.op) step.told fault fits.1.1 (fails_done fault g e.op fails)
+-- what was made in the step is what g did in the event
+pub made_is : (g : ℕ) (step : Step) (fault : Option Cause) (e : Event) → Fits g step e → FailsBy fault e.op
+    → made_in step.asked.ask step.told fault ≡ Some (done_by g e.op)
+made_is g step fault e fits fails = row_made step.asked.ask fits.1.0 (done_by g e.op) step.told fault fits.1.1 (fails_done fault g e.op fails)
 
+module _ (places recorded : List (List ℕ)) (body : List Request) (g p : ℕ) (step : Step) (e : Event) (fits : Fits g step e) where
   -- the body has no step there
   pub passes_no_step : slice_get body p ≡ None → IsPassed (spelled places body) recorded g p e None
   passes_no_step none (i, at, placed, makes) = let past = spelled_past places body p none in cc

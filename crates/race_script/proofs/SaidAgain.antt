@@ -65,10 +65,6 @@ module _ (decls : DeclsState) (holds : IsWellFormed decls) where
 
   front_again : (ask : Ask) (place : List ℕ) → ask_fits ds ask ≡ true → IfSome (ask_says ask) (λ said. IsFront said.0 (map (part_text ds) said.1 ++ place ∷ []))
   unfolding line_word word_named
-  front_again (Ask.Go h) place fits = alone AskWord.Go (codes "go") _ refl refl (plain AskWord.Go _ refl)
-  front_again Ask.Exit place fits = alone AskWord.Exit (codes "exit") _ refl refl (plain AskWord.Exit _ refl)
-  front_again (Ask.Read x) place fits = alone AskWord.Read (codes "read") _ refl refl (plain AskWord.Read _ refl)
-  front_again (Ask.Write x w) place fits = alone AskWord.Write (codes "write") _ refl refl (plain AskWord.Write _ refl)
   front_again (Ask.Send None w) place fits =
       record { table = AskWord.Send; first = codes "send"; rest = _; words = refl; known = refl; had = λ version. refl; cut = refl; visible = λ v. (refl, v) }
   front_again (Ask.Send (Some c) w) place fits =
@@ -85,14 +81,7 @@ module _ (decls : DeclsState) (holds : IsWellFormed decls) where
       let less = both (nat_lt c (counts_of ds Kind.Chan)) true (both (nat_lt c (counts_of ds Kind.Chan) && true) true fits).0 in
       alone AskWord.Close (codes "close") _ refl refl (named AskWord.Close (chan_name ds c) _ (chan_is_name c less.0))
   front_again (Ask.Select offers has_default) place fits = tt
-  front_again (Ask.Lock l) place fits = alone AskWord.Lock (codes "lock") _ refl refl (plain AskWord.Lock _ refl)
-  front_again (Ask.Unlock l) place fits = alone AskWord.Unlock (codes "unlock") _ refl refl (plain AskWord.Unlock _ refl)
-  front_again (Ask.RLock l) place fits = alone AskWord.RLock (codes "rlock") _ refl refl (plain AskWord.RLock _ refl)
-  front_again (Ask.RUnlock l) place fits = alone AskWord.RUnlock (codes "runlock") _ refl refl (plain AskWord.RUnlock _ refl)
-  front_again (Ask.TryLock l) place fits = alone AskWord.TryLock (codes "trylock") _ refl refl (plain AskWord.TryLock _ refl)
-  front_again (Ask.TryRLock l) place fits = alone AskWord.TryRLock (codes "tryrlock") _ refl refl (plain AskWord.TryRLock _ refl)
-  front_again (Ask.Do o) place fits = alone AskWord.Do (codes "do") _ refl refl (plain AskWord.Do _ refl)
-  front_again (Ask.EndDo o) place fits = alone AskWord.EndDo (codes "enddo") _ refl refl (plain AskWord.EndDo _ refl)
+  front_again _ place fits = alone _ _ _ refl refl (plain _ _ refl)
 
   -- words that can be seen are those of their line
   has_words : (first : List ℕ) (rest : List (List ℕ)) (word : LineWord) → line_word first ≡ Some word → has_line_word decls.version word ≡ true

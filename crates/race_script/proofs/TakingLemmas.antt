@@ -18,7 +18,7 @@ use Rattle.race_script.specs.{Bodies.is_body, Fault.{has_no_room, may_follow, ma
 use Rattle.race_script.specs.Program.{Instruction, Draft, asks_of, asked_by, ask_fits, request_fits, is_body_of}
 use Rattle.race_script.specs.{Program.{instruction, spelled, bodies_of, with_place, places_of}, Reader.UnendedState}
 use Rattle.race_script.specs.Reader.{ReadState, spelled_unended, draft_read, IsUnended, IsSound, TakesSaid}
-use Rattle.race_script.{specs.{Reading.{with_instruction, with_said}, Text.{Begins, Asks}}, proofs.LineLemmas.grown}
+use Rattle.race_script.{specs.{Reading.{with_instruction, with_said}, Text.{Begins, Asks}}, proofs.{LineLemmas.grown, CourseLemmas.asks_spelled}}
 
 -- the asks go on where others left
 pub onces_more : (onces : List ℕ) (asks : List Ask) (ask : Ask)
@@ -62,11 +62,6 @@ body_ends asks inside ask h exit follows =
     empty : (b : Bool) → b ≡ true → (b && true) ≡ true
     empty true e = refl
     empty false e = absurd (true≢false (sym e))
-
--- what instructions ask is what their requests do
-pub asks_spelled : (places : List (List ℕ)) (body : List Request) → asked_by (spelled places body) ≡ asks_of body
-asks_spelled places [] = refl
-asks_spelled places (r ∷ rs) = ap (λ l. r.ask ∷ l) (asks_spelled places rs)
 
 module _ (decls : DeclsState) (word : List ℕ) where
   abbrev more : DeclsState

@@ -26,7 +26,8 @@ use Rattle.race_script.specs.{Reading.{with_said, seen}, Text.{header, Said, Ask
 use Rattle.race_script.{specs.{Text.{program_text, IsProgramText}, Form.line_word_in}, proofs.AskTable.noun_word_in}
 use Rattle.race_script.proofs.ReadLemmas.{declaration_lines, header_said, nothing_but, seen_by_lines, seen_declared}
 use Rattle.race_script.proofs.ReadLemmas.{lines_declared, end_behind}
-use Rattle.race_script.proofs.{TakingLemmas.{asks_spelled, onces_more, places_grown}, BodyLemmas.exit_is_last}
+use Rattle.race_script.proofs.{TakingLemmas.{onces_more, places_grown}, BodyLemmas.exit_is_last}
+use Rattle.race_script.proofs.CourseLemmas.{asks_spelled}
 use Rattle.race_script.proofs.{SaidAgain.said_again, LineLemmas.{grown, SaidFits, IsSaidLine, said_keeps, seen_said}}
 use Rattle.race_script.proofs.LineLemmas.{lines_said, cause_behind}
 
@@ -90,8 +91,7 @@ room_left places i few = by (is_known places i.place) few
 
 -- the instructions fit, and their places have a place's form
 abbrev FitAll : Declared → List Instruction → Type 0
-FitAll w [] = Unit
-FitAll w (i ∷ is) = SaidFits w (Asks i) × FitAll w is
+FitAll w is = AllByRecursion (λ i. SaidFits w (Asks i)) is
 
 module _ (w : Declared) where
   abbrev within : List (List Instruction) → List Instruction → Draft
@@ -130,6 +130,13 @@ module _ (w : Declared) where
           let short : nat_le MAX_STEPS (length body) ≡ false = grind (arith, nat_tests, few) in
           λ k. if short k || room k then Some TextCause.TooMany else (if (ap (λ o. may_follow o i.ask) h ∙ may) k then None else Some TextCause.BadBlock)
 
+      goes : may_follow (Some onces) i.ask ≡ true → (next : Draft) → with_said (within done body) (Asks i) ≡ next
+          → Follows next (map Asks is ++ more) last → Follows (within done body) (Asks i ∷ (map Asks is ++ more)) last
+      goes may next is_next rest = record {
+        stand = (fit.0, fine may, subst (λ d. Stand d (map Asks is ++ more)) (sym is_next) rest.stand);
+        ends_as = ap (λ d. fold with_said d (map Asks is ++ more)) is_next ∙ rest.ends_as;
+      }
+
       by : (b : Bool) → is_exit i.ask ≡ b
           → ((inside : List ℕ) → onces_after [] (asked_by (body ++ i ∷ [])) ≡ Some inside → ends inside (asked_by is) ≡ true
           → Follows (within done (body ++ i ∷ [])) (map Asks is ++ more) last)
@@ -139,37 +146,20 @@ module _ (w : Declared) where
           (sym (ap (λ b. if b then (length onces == 0) && (length (asked_by is) == 0) else option_map_or
           (λ inside. ends inside (asked_by is)) (after_ask onces i.ask) false) exit) ∙ e) in
           let none : is ≡ [] = nothing is two.1 in
-          let next : with_said (within done body) (Asks i) ≡ behind (done ++ (body ++ i ∷ []) ∷ []) = said_stays done body i true exit in
-          let rest_is : Follows (behind (done ++ (body ++ i ∷ []) ∷ [])) (map Asks is ++ more) last =
-          subst (λ (l : List Instruction). Follows (behind (done ++ (body ++ i ∷ []) ∷ [])) (map Asks l ++ more) last) (sym none)
-          (subst (λ (l : List Instruction). Follows (behind (done ++ (body ++ i ∷ l) ∷ [])) more last) none follows) in
-          record {
-            stand = (
-              fit.0,
-              fine (ap (λ b. if b then length onces == 0 else is_some (after_ask onces i.ask)) exit ∙ two.0),
-              subst (λ d. Stand d (map Asks is ++ more)) (sym next) rest_is.stand,
-            );
-            ends_as = ap (λ d. fold with_said d (map Asks is ++ more)) next ∙ rest_is.ends_as;
-          }
+          goes (ap (λ b. if b then length onces == 0 else is_some (after_ask onces i.ask)) exit ∙ two.0) _ (said_stays done body i true exit)
+          (subst (λ (l : List Instruction). Follows (behind (done ++ (body ++ i ∷ []) ∷ [])) (map Asks l ++ more) last) (sym none)
+          (subst (λ (l : List Instruction). Follows (behind (done ++ (body ++ i ∷ l) ∷ [])) more last) none follows))
         where
           nothing : (l : List Instruction) → (length (asked_by l) == 0) ≡ true → l ≡ []
           nothing [] h = refl
           nothing (x ∷ xs) h = absurd (let z : length (asked_by (x ∷ xs)) ≡ 0 = grind (arith, nat_tests) in omega (arith, z))
       by false other rest =
           let on = exit_is_last onces i.ask (asked_by is) e other in
-          let next : with_said (within done body) (Asks i) ≡ within done (body ++ i ∷ []) = said_stays done body i false other in
           let entered : onces_after [] (asked_by (body ++ i ∷ [])) ≡ Some on.0 =
           ap (onces_after []) (map-append (λ (x : Instruction). x.ask) body (i ∷ [])) ∙ onces_more [] (asked_by body) i.ask
           ∙ ap (option_and_then (λ inside. after_ask inside i.ask)) h ∙ on.1 in
-          let rest_is = rest on.0 entered on.2 in
-          record {
-            stand = (
-              fit.0,
-              fine (ap (λ b. if b then length onces == 0 else is_some (after_ask onces i.ask)) other ∙ ap is_some on.1),
-              subst (λ d. Stand d (map Asks is ++ more)) (sym next) rest_is.stand,
-            );
-            ends_as = ap (λ d. fold with_said d (map Asks is ++ more)) next ∙ rest_is.ends_as;
-          }
+          goes (ap (λ b. if b then length onces == 0 else is_some (after_ask onces i.ask)) other ∙ ap is_some on.1) _ (said_stays done body i false other)
+          (rest on.0 entered on.2)
 
   -- a body that is a goroutine's
   record IsGood (body : List Instruction) : Type 0 where
@@ -178,8 +168,7 @@ module _ (w : Declared) where
     few : length body ≤ MAX_STEPS
 
   abbrev AllGood : List (List Instruction) → Type 0
-  AllGood [] = Unit
-  AllGood (b ∷ bs) = IsGood b × AllGood bs
+  AllGood bodies = AllByRecursion IsGood bodies
 
   open_places : (done : List (List Instruction)) → places_of (within done []) ≡ places_of (behind done)
   open_places done = ap (fold step []) (flat_map-append (λ x. x) done ([] ∷ []) ∙ append-nil (flat_map (λ x. x) done))

@@ -24,31 +24,14 @@ line_word w = noun_or (word_named w) (lookup (map (λ entry. (entry.0.now, entry
 
 -- the version has the word of an ask: that of a try, where it has the word of one that succeeds
 abbrev pub has_ask_word : Version → AskWord → Bool
-has_ask_word version AskWord.Go = true
-has_ask_word version AskWord.Exit = true
-has_ask_word version AskWord.Read = true
-has_ask_word version AskWord.Write = true
-has_ask_word version AskWord.Send = true
-has_ask_word version AskWord.SendNil = true
-has_ask_word version AskWord.Recv = true
-has_ask_word version AskWord.RecvNil = true
-has_ask_word version AskWord.Close = true
-has_ask_word version AskWord.CloseNil = true
-has_ask_word version AskWord.Lock = true
-has_ask_word version AskWord.Unlock = true
-has_ask_word version AskWord.RLock = true
-has_ask_word version AskWord.RUnlock = true
 has_ask_word version AskWord.TryLock = has_verb version Verb.TryLock
 has_ask_word version AskWord.TryRLock = has_verb version Verb.TryRLock
-has_ask_word version AskWord.Do = true
-has_ask_word version AskWord.EndDo = true
+has_ask_word version _ = true
 
 -- the version has lines of this kind
 abbrev pub has_line_word : Version → LineWord → Bool
-has_line_word version (LineWord.Declares noun) = true
-has_line_word version LineWord.Begins = true
 has_line_word version (LineWord.Asks word) = has_ask_word version word
-has_line_word version LineWord.Selects = true
+has_line_word version _ = true
 
 -- the word, where the version has it
 abbrev pub as_had : Version → LineWord → Option LineWord

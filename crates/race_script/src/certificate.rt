@@ -52,12 +52,13 @@ fn stuck_at<A: Allocator>(
     ensures { (body : List RequestValue) → slice_get program.now.bodies goroutine ≡ Some body → IsStop (spelled program.now.decls.places body)
         recording.now.decls.places goroutine (part_of goroutine recording.now.events) (waiting_of goroutine recording.now.waiting) result }
 {
+    let trace = recording.trace();
     let course = Course {
         body: program.body(goroutine),
         places: program.decls(),
-        recorded: recording.trace().decls(),
+        recorded: trace.decls(),
         goroutine,
-        fault: last_fault(recording.trace()),
+        fault: last_fault(trace),
     };
     let log = recording.logs(goroutine);
     let mut position = 0usize;
@@ -67,8 +68,9 @@ fn stuck_at<A: Allocator>(
             None => return Some(position),
         }
     }
-    match recording.waiting(goroutine) {
-        Some(request) if !course.waits(position, request) => Some(position),
-        _ => None,
+    if course.waits(position, recording.waiting(goroutine)) {
+        None
+    } else {
+        Some(position)
     }
 }

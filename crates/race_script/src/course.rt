@@ -1,5 +1,6 @@
 //! A goroutine's body, and how the steps of its log go along it.
 ghost use Rattle.std.specs.Prelude.{ℕ, ◌≡◌, ◌<◌, ◌↔◌, if◌then◌else◌, IsTrue, Some, length, slice_get};
+ghost use Rattle.std.specs.Option.{option_copied};
 ghost use Rattle.race_records.specs.{Declarations.capacity_of, declared.{event.{Event.{Event as EventValue}}}};
 ghost use Rattle.race_records.specs.declared.event.Op.TheVariants.{TryLock, TryRLock, TryFail};
 ghost use Rattle.race_model.specs.Legal.{IsLegal};
@@ -43,8 +44,19 @@ impl<'a, A: Allocator> Course<'a, A> {
         }
     }
 
-    /// Whether the body's step at the position is what waits.
-    pub(crate) fn waits(&self, position: usize, request: &Request) -> bool
+    /// Whether the body's step at the position is what waits, if anything does.
+    pub(crate) fn waits(&self, position: usize, waiting: Option<&Request>) -> bool
+        ensures { IsTrue result ↔ spec.WaitsAt (spelled self.now.places.now.places self.now.body.now.items) self.now.recorded.now.places
+            self.now.goroutine position (option_copied waiting.entry) }
+    {
+        match waiting {
+            Some(request) => self.asks(position, request),
+            None => true,
+        }
+    }
+
+    // Whether the body's step at the position is the request.
+    fn asks(&self, position: usize, request: &Request) -> bool
         ensures { IsTrue result ↔ (slice_get (spelled self.now.places.now.places self.now.body.now.items) position
             ≡ Some (instruction self.now.recorded.now.places request.now)) }
     {

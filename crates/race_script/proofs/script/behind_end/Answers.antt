@@ -9,8 +9,7 @@ use Rattle.race_script.proofs.script.behind_end.Goals as goal
 pub returns-then-depth-eq0-clause-end : goal.returns-then-depth-eq0-clause-end
 returns-then-depth-eq0-clause-end g c =
     let steps = c.args.steps.now.items in
-    let i = c.loop-at.at in
-    let depth = c.loop-at.depth in
+    let i = c.loop-at.at in let depth = c.loop-at.depth in
     let rest = drop (i + 1) (asks_of steps) in
     let zero : (depth == 0) ≡ true = let none = c.if-depth-eq0.true in grind (arith, nat_tests, none) in
     let one : steps_to_end depth (drop i (asks_of steps)) ≡ 1 =
@@ -22,8 +21,7 @@ returns-then-depth-eq0-clause-end g c =
 pub loop-at-preserved : goal.loop-at-preserved
 loop-at-preserved g c =
     let steps = c.args.steps.now.items in
-    let i = c.loop-at.at in
-    let depth = c.loop-at.depth in
+    let i = c.loop-at.at in let depth = c.loop-at.depth in
     let rest = drop (i + 1) (asks_of steps) in
     let from = asks_at steps i c.get-ask.result c.get-ask.ensures in
     let deep = c.loop-at.invariant.deep in

@@ -1,17 +1,10 @@
-use Rattle.std.proofs.Common.{◌≡◌, List, ℕ, Option, Bor, Some, None, true, is_some, sym, ap, refl, ◌∙◌, option_map}
-use Rattle.std.proofs.lemmas.Option.{none-some}
+use Rattle.std.proofs.Common.{◌≡◌, Some, is_some, sym, ap, ◌∙◌, option_map}
 use Rattle.race_records.specs.Equality.{declared}
-use Rattle.race_requests.specs.declared.request.Ask.{Ask}
-use Rattle.race_text.specs.{Owed.owed, Words.parts_left}
+use Rattle.race_text.{specs.{Owed.owed, Words.parts_left}, proofs.CauseLemmas.map_some}
 use Rattle.race_script.specs.{Fault.words_cause, Form.{on_nil, ask_fields}, Program.Instruction}
 use Rattle.race_script.{specs.{Reading.{asked_read, asked_in}, Text.Asks}, proofs.ReadLemmas.{asks_told, said_answered}}
 use Rattle.race_script.proofs.{SaidLines.asked_is_there, LineLemmas.{IsSaidLine, asks_line}}
 use Rattle.race_script.proofs.reader.Reader.take_asks.Goals as goal
-
--- what gives an instruction is there
-there_is : (o : Option (Ask × Bor (List ℕ))) (i : Instruction) → option_map asked_read o ≡ Some i → is_some o ≡ true
-there_is None i h = absurd (none-some i h)
-there_is (Some x) i h = refl
 
 -- what was read, of the declarations that the caller sees
 module _ (g : _) (c : goal.After-add-arg-1 g) where
@@ -31,10 +24,7 @@ module _ (g : _) (c : goal.After-add-arg-1 g) where
 
 pub returns-in-Some : goal.returns-in-Some
 returns-in-Some g c = record {
-  taken =
-      let s = c.args.self.now in
-      let words = parts_left 32 c.args.rest in
-      sym (ap owed (asks_told s c.requires.read c.args.line.now c.args.word words c.in-Some.cause c.requires.words
+  taken = sym (ap owed (asks_told c.args.self.now c.requires.read c.args.line.now c.args.word (parts_left 32 c.args.rest) c.in-Some.cause c.requires.words
       ((λ k. words_cause (sym c.self.view_is k).decls.declarations (ask_fields (sym c.on_nil-word.ensures k).0) (sym c.on_nil-word.ensures k).1)
       ∙ (λ k. words_cause c.self.inside.decls.declarations
       (sym (c.as_slice.ensures.value ∙ c.ask_fields-fields.ensures) k) (parts_left 32 c.on_nil-word.result.1))
@@ -43,13 +33,11 @@ returns-in-Some g c = record {
 
 pub unwrap-ask-requires : goal.unwrap-ask-requires
 unwrap-ask-requires g c =
-    let word = c.on_nil-word.result.0 in
     let words = parts_left 32 c.on_nil-word.result.1 in
     let ds = c.self.inside.decls.declarations in
-    let none : words_cause ds (ask_fields word) words ≡ None =
-    (λ k. words_cause ds (sym (c.as_slice.ensures.value ∙ c.ask_fields-fields.ensures) k) words) ∙ sym c.words_cause.ensures ∙ c.in_default.is in
-    let there = asked_is_there ds word words none in
-    there_is c.asked_in.result there.0 (c.asked_in.ensures ∙ there.1)
+    let none = (λ k. words_cause ds (sym (c.as_slice.ensures.value ∙ c.ask_fields-fields.ensures) k) words) ∙ sym c.words_cause.ensures ∙ c.in_default.is in
+    let there = asked_is_there ds c.on_nil-word.result.0 words none in
+    ap is_some (map_some asked_read c.asked_in.result there.0 (c.asked_in.ensures ∙ there.1)).1
 
 pub add-requires-clause-known : goal.add-requires-clause-known
 add-requires-clause-known g c = (line_says g c).fits.2

@@ -52,7 +52,8 @@ module _ (caps : ℕ → ℕ) (events : List Event) where
       by (inr found) = inr found
       by (inl fine) = next fine (broken caps (take n events) here.0) refl
 
-at_next : {trace : TraceState} {n m : ℕ} {table : TableState} {found : List (Option Race)} → AreTables trace n table found → n ≡ m → AreTables trace m table found
+at_next : {trace : TraceState} {n m : ℕ} {table : TableState} {found : List (Option Race)} → AreTables trace n table found → n ≡ m
+    → AreTables trace m table found
 at_next {trace} {n} {m} {table} {found} are same = subst (λ m. AreTables trace m table found) same are
 
 module _ (trace : TraceState) (holds : IsTrace trace) where

@@ -93,11 +93,10 @@ filter_keeps p (x ∷ xs) e passes is = go (p x) refl (cons_cases x xs e is) (fi
 
 length_filter : {X : Type 0} (p : X → Bool) (xs : List X) → length (filter p xs) ≤ length xs
 length_filter p [] = omega arith
-length_filter p (x ∷ xs) = go (p x) (length_filter p xs)
+length_filter p (x ∷ xs) = one (p x) (filter p xs) xs x (length_filter p xs)
   where
-    go : (b : Bool) → length (filter p xs) ≤ length xs → length (cond b (x ∷ filter p xs) (filter p xs)) ≤ suc (length xs)
-    go true less = omega (arith, less)
-    go false less = omega (arith, less)
+    one : {X : Type 0} (b : Bool) (ys xs : List X) (x : X) → length ys ≤ length xs → length (cond b (x ∷ ys) ys) ≤ suc (length xs)
+    one b ys xs x less = grind arith
 
 -- a filter that drops nothing changes nothing
 pub filter_all : {X : Type 0} (p : X → Bool) (xs : List X) → length xs ≤ length (filter p xs) → filter p xs ≡ xs

@@ -158,10 +158,9 @@ module _ (caps : ℕ → ℕ) (events : List Event) (x : ℕ) (touched : List To
       )
 
       back : Conflict events x i j → Conflicting touched i j
-      back (differ, accessi, accessj, write) = go (stamps.every i accessi) (stamps.every j accessj)
-        where
-          go : ((a : Touch) × IsAt touched i a) → ((b : Touch) × IsAt touched j b) → Conflicting touched i j
-          go (a, (ina, ati)) (b, (inb, atj)) = (
+      back (differ, accessi, accessj, write) =
+          let (a, (ina, ati)) = stamps.every i accessi in
+          let (b, (inb, atj)) = stamps.every j accessj in (
             differ,
             (
               a,

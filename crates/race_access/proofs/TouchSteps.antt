@@ -1,6 +1,6 @@
 -- The races of a lawful list of touches, one touch on.
 use Rattle.std.proofs.Common.{◌≡◌, ◌≢◌, ◌⊎◌, ℕ, ◌<◌, ◌≤◌, List, [], ◌∷◌, ◌++◌, length, Option, Some, None, slice_get}
-use Rattle.std.proofs.{Common.{refl, sym, ap, ◌∙◌, subst, inl, inr, arith, IsTrue}, lemmas.Bool.{cases_lt, cases_eq}}
+use Rattle.std.proofs.{Common.{refl, sym, ap, ◌∙◌, subst, inl, inr, arith, IsTrue}, lemmas.Bool.{cases_lt, cases_order}}
 use Rattle.std.proofs.lemmas.Option.{slice_get-get_or}
 use Rattle.std.proofs.lemmas.List.Elements.{Contains-append_left, Contains-push, Contains-push_cases}
 use Rattle.std.specs.List.{Contains}
@@ -18,15 +18,13 @@ place_of xs x (k, less, is) = (k, less, slice_get-get_or xs k x less ∙ ap Some
 
 -- event numbers tell touches apart
 pub same_at : (touched : List Touch) → IsLawful touched → (a b : Touch) → Contains touched a → Contains touched b → a.stamp.at ≡ b.stamp.at → a ≡ b
-same_at touched lawful a b ina inb same = go (place_of touched a ina) (place_of touched b inb)
-  where
-    go : ((k : ℕ) × (k < length touched) × (slice_get touched k ≡ Some a)) → ((m : ℕ) × (m < length touched) × (slice_get touched m ≡ Some b)) → a ≡ b
-    go (k, lessk, atk) (m, lessm, atm) = elim (cases_eq k m) [
-      | inl equal ↦ let here : slice_get touched k ≡ Some b = subst (λ (n : ℕ). slice_get touched n ≡ Some b) (sym equal) atm in cc
-      | inr differ ↦ elim (cases_lt k m) [
-        | inl less ↦ let rises : a.stamp.at < b.stamp.at = lawful.rising k m a b less atk atm in absurd (omega (arith, rises, same))
-        | inr more ↦ let rises : b.stamp.at < a.stamp.at = lawful.rising m k b a (omega (arith, more, differ)) atm atk in absurd (omega (arith, rises, same))
-      ]
+same_at touched lawful a b ina inb same =
+    let (k, lessk, atk) = place_of touched a ina in
+    let (m, lessm, atm) = place_of touched b inb in
+    elim (cases_order k m) [
+      | inl equal ↦ cc
+      | inr (inl less) ↦ let rises : a.stamp.at < b.stamp.at = lawful.rising k m a b less atk atm in absurd (omega (arith, rises, same))
+      | inr (inr more) ↦ let rises : b.stamp.at < a.stamp.at = lawful.rising m k b a more atm atk in absurd (omega (arith, rises, same))
     ]
 
 module _ (touched : List Touch) (t : Touch) (lawful : IsLawful (touched ++ t ∷ [])) where
@@ -38,28 +36,31 @@ module _ (touched : List Touch) (t : Touch) (lawful : IsLawful (touched ++ t ∷
 
   -- the next one is the latest
   pub later : (a : Touch) → Contains touched a → a.stamp.at < t.stamp.at
-  later a is = go (place_of touched a is)
-    where
-      go : ((k : ℕ) × (k < length touched) × (slice_get touched k ≡ Some a)) → a.stamp.at < t.stamp.at
-      go (k, less, at) = lawful.rising k (length touched) a t less (append_at_old touched (t ∷ []) k a at) (slice_get-push touched t)
+  later a is =
+      let (k, less, at) = place_of touched a is in
+      lawful.rising k (length touched) a t less (append_at_old touched (t ∷ []) k a at) (slice_get-push touched t)
 
   -- what was known stays so
   known_grows : (i j : ℕ) → Known touched i j → Known (touched ++ t ∷ []) i j
   known_grows i j (a, b, (ina, ati), (inb, atj), known) = (a, b, (inside a ina, ati), (inside b inb, atj), known)
 
+  -- what is known of two indexes is known of the touches that stand there
+  is_known : (a b : Touch) → Contains (touched ++ t ∷ []) a → Contains (touched ++ t ∷ []) b
+      → Known (touched ++ t ∷ []) a.stamp.at b.stamp.at → IsKnownTo a b
+  is_known a b ina inb (c, d, (inc, atc), (ind, atd), known) =
+      let first : c ≡ a = same_at (touched ++ t ∷ []) lawful c a inc ina atc in
+      let second : d ≡ b = same_at (touched ++ t ∷ []) lawful d b ind inb atd in
+      subst (IsKnownTo a) second (subst (λ c. IsKnownTo c d) first known)
+
   -- and between old ones no more is known
   known_old : (i j : ℕ) (a b : Touch) → IsAt touched i a → IsAt touched j b → Known (touched ++ t ∷ []) i j → IsKnownTo a b
-  known_old i j a b (ina, ati) (inb, atj) (c, d, (inc, atc), (ind, atd), known) =
-      let first : c ≡ a = same_at (touched ++ t ∷ []) lawful c a inc (inside a ina) (atc ∙ sym ati) in
-      let second : d ≡ b = same_at (touched ++ t ∷ []) lawful d b ind (inside b inb) (atd ∙ sym atj) in
-      subst (IsKnownTo a) second (subst (λ c. IsKnownTo c d) first known)
+  known_old i j a b (ina, ati) (inb, atj) known = is_known a b (inside a ina) (inside b inb)
+      (subst (λ (p : ℕ × ℕ). Known (touched ++ t ∷ []) p.0 p.1) (λ k. (sym ati k, sym atj k)) known)
 
   -- an old race stays one
   pub race_grows : (i j : ℕ) → Race touched i j → Race (touched ++ t ∷ []) i j
-  race_grows i j race = go race.conflict.1
-    where
-      go : ((a : Touch) × (b : Touch) × IsAt touched i a × IsAt touched j b × (IsTrue a.stamp.write ⊎ IsTrue b.stamp.write)) → Race (touched ++ t ∷ []) i j
-      go (a, b, ati, atj, write) = record {
+  race_grows i j race =
+      let (a, b, ati, atj, write) = race.conflict.1 in record {
         conflict = (race.conflict.0, (a, b, (inside a ati.0, ati.1), (inside b atj.0, atj.1), write));
         not_before = λ known. race.not_before (a, b, ati, atj, known_old i j a b ati atj known);
         not_after = λ known. race.not_after (b, a, atj, ati, known_old j i b a atj ati known);
@@ -77,13 +78,6 @@ module _ (touched : List Touch) (t : Touch) (lawful : IsLawful (touched ++ t ∷
     not_before = λ known. unknown (is_known a t (inside a ina) last known);
     not_after = λ known. lawful.onward a t (inside a ina) last (later a ina) (is_known t a last (inside a ina) known);
   }
-    where
-      is_known : (a b : Touch) → Contains (touched ++ t ∷ []) a → Contains (touched ++ t ∷ []) b
-          → Known (touched ++ t ∷ []) a.stamp.at b.stamp.at → IsKnownTo a b
-      is_known a b ina inb (c, d, (inc, atc), (ind, atd), known) =
-          let first : c ≡ a = same_at (touched ++ t ∷ []) lawful c a inc ina atc in
-          let second : d ≡ b = same_at (touched ++ t ∷ []) lawful d b ind inb atd in
-          subst (IsKnownTo a) second (subst (λ c. IsKnownTo c d) first known)
 
   -- what races with the next one
   abbrev pub IsPartner : Touch → Type 0
@@ -91,47 +85,43 @@ module _ (touched : List Touch) (t : Touch) (lawful : IsLawful (touched ++ t ∷
 
   -- a race is an old one, or the next one's
   pub race_cases : (i j : ℕ) → i < j → Race (touched ++ t ∷ []) i j → Race touched i j ⊎ ((j ≡ t.stamp.at) × ((a : Touch) × (a.stamp.at ≡ i) × IsPartner a))
-  race_cases i j less race = go race.conflict.1
+  race_cases i j less race =
+      let (a, b, (ina, ati), (inb, atj), write) = race.conflict.1 in
+      cases a b ina ati inb atj write (Contains-push_cases touched t a ina) (Contains-push_cases touched t b inb)
     where
-      go : ((a : Touch) × (b : Touch) × IsAt (touched ++ t ∷ []) i a × IsAt (touched ++ t ∷ []) j b × (IsTrue a.stamp.write ⊎ IsTrue b.stamp.write))
+      cases : (a b : Touch) → Contains (touched ++ t ∷ []) a → a.stamp.at ≡ i → Contains (touched ++ t ∷ []) b → b.stamp.at ≡ j
+          → IsTrue a.stamp.write ⊎ IsTrue b.stamp.write → Contains touched a ⊎ (t ≡ a) → Contains touched b ⊎ (t ≡ b)
           → Race touched i j ⊎ ((j ≡ t.stamp.at) × ((a : Touch) × (a.stamp.at ≡ i) × IsPartner a))
-      go (a, b, (ina, ati), (inb, atj), write) = cases (Contains-push_cases touched t a ina) (Contains-push_cases touched t b inb)
-        where
-          cases : Contains touched a ⊎ (t ≡ a) → Contains touched b ⊎ (t ≡ b)
-              → Race touched i j ⊎ ((j ≡ t.stamp.at) × ((a : Touch) × (a.stamp.at ≡ i) × IsPartner a))
-          cases (inl olda) (inl oldb) = inl (record {
-            conflict = (race.conflict.0, (a, b, (olda, ati), (oldb, atj), write));
-            not_before = λ known. race.not_before (known_grows i j known);
-            not_after = λ known. race.not_after (known_grows j i known);
-          })
-          cases (inl olda) (inr newb) = inr (
-            sym atj ∙ ap (λ (b : Touch). b.stamp.at) (sym newb),
-            (
-              a,
-              ati,
-              (
-                olda,
-                subst (λ (b : Touch). IsTrue a.stamp.write ⊎ IsTrue b.stamp.write) (sym newb) write,
-                λ known. race.not_before (a, b, (ina, ati), (inb, atj), subst (IsKnownTo a) newb known),
-              ),
-            ),
-          )
-          cases (inr newa) (inl oldb) =
-              let behind : b.stamp.at < t.stamp.at = later b oldb in
-              let same : t.stamp.at ≡ a.stamp.at = ap (λ (a : Touch). a.stamp.at) newa in
-              absurd (omega (arith, behind, same, ati, atj, less))
-          cases (inr newa) (inr newb) =
-              let same : t.stamp.at ≡ a.stamp.at = ap (λ (a : Touch). a.stamp.at) newa in
-              let alike : t.stamp.at ≡ b.stamp.at = ap (λ (b : Touch). b.stamp.at) newb in
-              absurd (omega (arith, same, alike, ati, atj, less))
+      cases a b ina ati inb atj write (inl olda) (inl oldb) = inl (record {
+        conflict = (race.conflict.0, (a, b, (olda, ati), (oldb, atj), write));
+        not_before = λ known. race.not_before (known_grows i j known);
+        not_after = λ known. race.not_after (known_grows j i known);
+      })
+      cases a b ina ati inb atj write (inl olda) (inr newb) = inr (
+        sym atj ∙ ap (λ (b : Touch). b.stamp.at) (sym newb),
+        (
+          a,
+          ati,
+          (
+            olda,
+            subst (λ (b : Touch). IsTrue a.stamp.write ⊎ IsTrue b.stamp.write) (sym newb) write,
+            λ known. race.not_before (a, b, (ina, ati), (inb, atj), subst (IsKnownTo a) newb known),
+          ),
+        ),
+      )
+      cases a b ina ati inb atj write (inr newa) (inl oldb) =
+          let behind : b.stamp.at < t.stamp.at = later b oldb in
+          let same : t.stamp.at ≡ a.stamp.at = ap (λ (a : Touch). a.stamp.at) newa in
+          absurd (omega (arith, behind, same, ati, atj, less))
+      cases a b ina ati inb atj write (inr newa) (inr newb) =
+          let same : t.stamp.at ≡ a.stamp.at = ap (λ (a : Touch). a.stamp.at) newa in
+          let alike : t.stamp.at ≡ b.stamp.at = ap (λ (b : Touch). b.stamp.at) newb in
+          absurd (omega (arith, same, alike, ati, atj, less))
 
   -- races go both ways
   turned : (i j : ℕ) → Race (touched ++ t ∷ []) i j → Race (touched ++ t ∷ []) j i
-  turned i j race = go race.conflict.1
-    where
-      go : ((a : Touch) × (b : Touch) × IsAt (touched ++ t ∷ []) i a × IsAt (touched ++ t ∷ []) j b × (IsTrue a.stamp.write ⊎ IsTrue b.stamp.write))
-          → Race (touched ++ t ∷ []) j i
-      go (a, b, ati, atj, write) = record {
+  turned i j race =
+      let (a, b, ati, atj, write) = race.conflict.1 in record {
         conflict = (λ same. race.conflict.0 (sym same), (b, a, atj, ati, elim write [ inl w ↦ inr w | inr w ↦ inl w ]));
         not_before = race.not_after;
         not_after = race.not_before;
@@ -183,10 +173,10 @@ module _ (touched : List Touch) (t : Touch) (lawful : IsLawful (touched ++ t ∷
   }
     where
       below : j < t.stamp.at
-      below = go reported.race.conflict.1
-        where
-          go : ((a : Touch) × (b : Touch) × IsAt touched i a × IsAt touched j b × (IsTrue a.stamp.write ⊎ IsTrue b.stamp.write)) → j < t.stamp.at
-          go (a, b, ati, (inb, atj), write) = let less : b.stamp.at < t.stamp.at = later b inb in omega (arith, less, atj)
+      below =
+          let (a, b, ati, (inb, atj), write) = reported.race.conflict.1 in
+          let less : b.stamp.at < t.stamp.at = later b inb in
+          omega (arith, less, atj)
 
 -- one race is reported, or none
 pub reported_once : (touched : List Touch) (race other : Option (ℕ × ℕ)) → IsReported touched race → IsReported touched other → race ≡ other

@@ -1,18 +1,16 @@
 -- Every trace has a verdict: an event breaks a rule, or tables read off the races.
-use Rattle.std.proofs.Common.{◌≡◌, ℕ, zero, suc, ◌+◌, ◌<◌, ◌≤◌, ◌==◌, Bool, true, false, List, [], ◌∷◌, length, map}
-use Rattle.std.proofs.Common.{take, replicate, slice_set, Option, Some, None, is_some, if◌then◌else◌, refl, ap, ◌∙◌}
+use Rattle.std.proofs.Common.{◌≡◌, ℕ, zero, suc, ◌<◌, ◌≤◌, ◌==◌, Bool, true, false, List, [], ◌∷◌, length, map}
+use Rattle.std.proofs.Common.{take, Option, Some, None, refl, ap, ◌∙◌}
 use Rattle.std.proofs.{Common.{subst, inl, inr, ◌⊎◌, arith, take-take}, lemmas.Bool.Decides.nat_tests}
-use Rattle.std.proofs.lemmas.{List.{length-replicate, length-set, take_all}, Option.slice_get_within}
-use Rattle.std.specs.List.{slice_index_or}
-use Rattle.race_records.specs.{declared.{event.{Event.Event}, kind.Kind.Kind}, Declarations.count_of}
+use Rattle.std.proofs.lemmas.{Option.slice_get_within}
+use Rattle.race_records.specs.{declared.{event.{Event.Event}}}
 use Rattle.race_records.specs.Events.{TraceState, IsTrace}
 use Rattle.race_model.specs.{Events.At, Legal.{broken, IsLegal, IsIllegalAt}, Verdict.{Verdict, Illegal, Clean, Races}}
 use Rattle.race_model.proofs.Indexes.{at_below, at_same, take_within, take_at_old}
-use Rattle.race_verdict.specs.{declared.races.Race.Race, Accesses.accessed, Races.{race_of, AreFound, races_of}}
-use Rattle.race_verdict.{specs.{Races.AreRaces, Traces.{capacities, HasVerdict}}, proofs.RangeLemmas.race_declared}
-use Rattle.race_verdict.proofs.RaceLists.{are_races, free_from_none, listed_some}
-use Rattle.race_edges.specs.{Synchronized.source_at, TableState.{TableState, table_after}}
-use Rattle.race_edges.{specs.Partners.{noted, found_after, race_at}, proofs.IsTable.IsTable}
+use Rattle.race_verdict.specs.{declared.races.Race.Race, Races.{race_of, races_of}}
+use Rattle.race_verdict.{specs.{Races.AreRaces, Traces.{capacities, HasVerdict}}}
+use Rattle.race_verdict.proofs.RaceLists.{free_from_none, listed_some}
+use Rattle.race_edges.specs.{TableState.{TableState}}
 use Rattle.race_edges.proofs.JudgeSteps.{AreTables, tables_none, tables_next, races_listed}
 
 module _ (caps : ℕ → ℕ) (events : List Event) where
@@ -54,7 +52,8 @@ module _ (caps : ℕ → ℕ) (events : List Event) where
       by (inr found) = inr found
       by (inl fine) = next fine (broken caps (take n events) here.0) refl
 
-at_next : {trace : TraceState} {n m : ℕ} {table : TableState} {found : List (Option Race)} → AreTables trace n table found → n ≡ m → AreTables trace m table found
+at_next : {trace : TraceState} {n m : ℕ} {table : TableState} {found : List (Option Race)} → AreTables trace n table found → n ≡ m
+    → AreTables trace m table found
 at_next {trace} {n} {m} {table} {found} are same = subst (λ m. AreTables trace m table found) same are
 
 module _ (trace : TraceState) (holds : IsTrace trace) where

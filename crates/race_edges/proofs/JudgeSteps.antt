@@ -1,5 +1,6 @@
 -- The judge's tables are right, one event on.
-use Rattle.std.proofs.Common.{◌≡◌, ◌↔◌, ℕ, ◌+◌, ◌<◌, ◌≤◌, Bool, true, false, List, [], ◌∷◌, ◌++◌, length, take, replicate}
+use Rattle.std.proofs.Common.{◌≡◌, ◌↔◌, ℕ, ◌+◌, ◌<◌, ◌≤◌, Bool, true, false, List, [], ◌∷◌, ◌++◌, length, take}
+use Rattle.std.proofs.Common.{replicate}
 use Rattle.std.proofs.Common.{Option, Some, None, IfSome, is_some, if◌then◌else◌, IsTrue, slice_get, slice_set, refl}
 use Rattle.std.proofs.{Common.{sym, ◌∙◌, subst, arith}, lemmas.Option.slice_get_within}
 use Rattle.std.{proofs.lemmas.List.{length-take-le, length-replicate, length-set, take_all}, specs.List.slice_index_or}
@@ -13,7 +14,8 @@ use Rattle.race_verdict.{specs.Traces.capacities, proofs.RangeLemmas.{range_in_t
 use Rattle.race_verdict.proofs.{RangeLemmas.{accessed_in_range, race_declared}, RaceLists.are_races}
 use Rattle.race_edges.specs.{Synchronized.source_at, TableState.{TableState, HasRows, table_after}}
 use Rattle.race_edges.{specs.Partners.{HasPlace, found_after, noted, race_at}, proofs.IsTable.IsTable}
-use Rattle.race_edges.proofs.{SynchronizedLemmas.source_at_is, RowLemmas.shape_after, TableSteps.{table_none, table_step}}
+use Rattle.race_edges.proofs.{SynchronizedLemmas.source_at_is, RowLemmas.shape_after}
+use Rattle.race_edges.proofs.TableSteps.{table_none, table_step}
 use Rattle.race_edges.proofs.FoundSteps.{found_none, found_step}
 
 -- what is said of the event at an index

@@ -1,6 +1,6 @@
 -- The numbers of two events tell whether one is a source of the other.
-use Rattle.std.proofs.Common.{◌≡◌, ◌∙◌, ℕ, ◌+◌, ◌<◌, ◌==◌, ◌&&◌, ◌||◌, Bool, true, false, List, take, Some, None}
-use Rattle.std.proofs.{Common.{IsTrue, refl, sym, ap, arith, eqb-true}, lemmas.{Bool.Decides.nat_tests, List.take-take}}
+use Rattle.std.proofs.Common.{◌≡◌, ◌∙◌, ℕ, ◌+◌, ◌<◌, ◌==◌, ◌&&◌, ◌||◌, Bool, true, List, take, slice_get, Some, None}
+use Rattle.std.proofs.{Common.{IsTrue, sym, ap, arith, eqb-true}, lemmas.{Bool.Decides.nat_tests, List.take-take}}
 use Rattle.std.{proofs.lemmas.Option.slice_get_within, specs.List.slice_index_or}
 use Rattle.race_records.specs.declared.event.{Event.Event, Op.{Op, TheVariants.{Send, Recv, Unlock, RUnlock}}}
 use Rattle.race_records.specs.{declared.kind.Kind.Kind, Parts.op_is_in_range}
@@ -33,8 +33,15 @@ number_is : (events : List Event) (numbers : List ℕ) → AreNumbers events num
 number_is events numbers are i e at = are.each i (slice_get_within events i e at)
     ∙ ap (λ o. elim o [ Some e ↦ count (counts e.op) (take i events) | None ↦ 0 ]) at
 
-module _ (caps : ℕ → ℕ) (events : List Event) (numbers : List ℕ) (are : AreNumbers events numbers) (from to : ℕ) (earlier : from < to)
-    (s e : Event) (ats : At events from s) (ate : At events to e) where
+-- a test says the same of the same numbers, where it comes to them
+agree : (u r : Bool) (n m k l : ℕ) → (r ≡ true → n ≡ k) → m ≡ l → (u || (r && (n == m))) ≡ (u || (r && (k == l)))
+agree u r n m k l first second = grind (arith, nat_tests)
+
+agree_next : (u : Bool) (n m k l : ℕ) → (u ≡ true → n ≡ k) → m ≡ l → (u && (n + 1 == m)) ≡ (u && (k + 1 == l))
+agree_next u n m k l first second = grind (arith, nat_tests)
+
+module _ (caps : ℕ → ℕ) {events : List Event} {numbers : List ℕ} (are : AreNumbers events numbers) (from to : ℕ) (earlier : from < to)
+    {s e : Event} (ats : slice_get events from ≡ Some s) (ate : slice_get events to ≡ Some e) where
   -- the front up to an earlier event is that of the front
   front : take from (take to events) ≡ take from events
   front = take-take from to events (omega (arith, earlier))
@@ -67,24 +74,14 @@ module _ (caps : ℕ → ℕ) (events : List Event) (numbers : List ℕ) (are : 
   pub told_lock : (l : ℕ) (o : Op) → e.op ≡ o → counts o ≡ locks l
       → is_source caps (take to events) from s.op o ≡ is_before_lock l s.op (count (locks l) (take from (take to events))) (count (locks l) (take to events))
       → is_before_lock l s.op (slice_index_or numbers from 0) (slice_index_or numbers to 0) ≡ source_at caps events from to
-  told_lock l o is numbered tests = go (runlocks l s.op) refl ∙ sym tests ∙ sym (here o is)
-    where
-      go : (b : Bool) → runlocks l s.op ≡ b → is_before_lock l s.op (slice_index_or numbers from 0) (slice_index_or numbers to 0)
-          ≡ is_before_lock l s.op (count (locks l) (take from (take to events))) (count (locks l) (take to events))
-      go true read = λ i. is_before_lock l s.op (first_is (locks l) (runlock_counts l s.op read) i) (second_is (locks l) o is numbered i)
-      go false other =
-          ap (λ b. unlocks l s.op || (b && (slice_index_or numbers from 0 == slice_index_or numbers to 0))) other
-          ∙ sym (ap (λ b. unlocks l s.op || (b && (count (locks l) (take from (take to events)) == count (locks l) (take to events)))) other)
+  told_lock l o is numbered tests =
+      agree (unlocks l s.op) (runlocks l s.op) _ _ _ _ (λ read. first_is (locks l) (runlock_counts l s.op read)) (second_is (locks l) o is numbered)
+      ∙ sym tests ∙ sym (here o is)
 
   -- the last unlock before a read lock
   pub told_read_lock : (l : ℕ) (o : Op) → e.op ≡ o → counts o ≡ unlocks l
       → is_source caps (take to events) from s.op o ≡ is_last_unlock l s.op (count (unlocks l) (take from (take to events))) (count (unlocks l) (take to events))
       → is_last_unlock l s.op (slice_index_or numbers from 0) (slice_index_or numbers to 0) ≡ source_at caps events from to
-  told_read_lock l o is numbered tests = go (unlocks l s.op) refl ∙ sym tests ∙ sym (here o is)
-    where
-      go : (b : Bool) → unlocks l s.op ≡ b → is_last_unlock l s.op (slice_index_or numbers from 0) (slice_index_or numbers to 0)
-          ≡ is_last_unlock l s.op (count (unlocks l) (take from (take to events))) (count (unlocks l) (take to events))
-      go true unlock = λ i. is_last_unlock l s.op (first_is (unlocks l) (unlock_counts l s.op unlock) i) (second_is (unlocks l) o is numbered i)
-      go false other =
-          ap (λ b. b && (slice_index_or numbers from 0 + 1 == slice_index_or numbers to 0)) other
-          ∙ sym (ap (λ b. b && (count (unlocks l) (take from (take to events)) + 1 == count (unlocks l) (take to events))) other)
+  told_read_lock l o is numbered tests =
+      agree_next (unlocks l s.op) _ _ _ _ (λ unlock. first_is (unlocks l) (unlock_counts l s.op unlock)) (second_is (unlocks l) o is numbered)
+      ∙ sym tests ∙ sym (here o is)

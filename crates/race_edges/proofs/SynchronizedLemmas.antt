@@ -1,5 +1,6 @@
 -- Which operations can be sources, and between whom an edge inside an event leads.
-use Rattle.std.proofs.Common.{◌≡◌, ◌⊎◌, ◌∙◌, ℕ, false, List, Some, refl, ap, inl, inr, arith, IsTrue, take, slice_get, None}
+use Rattle.std.proofs.Common.{◌≡◌, ◌⊎◌, ◌∙◌, ℕ, false, List, Some, refl, ap, inl, inr, arith, IsTrue, take, slice_get}
+use Rattle.std.proofs.Common.{None}
 use Rattle.race_records.specs.declared.event.{Event.Event, Op.{Op, TheVariants.{Go, Send, Recv, Meet}}}
 use Rattle.race_records.specs.declared.event.Op.TheVariants.{Close, Lock, Unlock, RUnlock, TryLock}
 use Rattle.race_records.specs.declared.event.Op.TheVariants.{OnceEnd}

@@ -103,7 +103,10 @@ module _ (caps : ℕ → ℕ) (table : TableState) (limit : ℕ) (past : List Ev
       let bits = sees_with_seen table.rows e.who (length past) g i less (let wide = is_table.wide g less in omega (arith, within, wide)) in
       let seen = is_table.seen g i less within in
       let last = slice_get-push past e in (
-        (λ s. elim (bits.0 s) [ inl old ↦ let had = seen.0 old in (had.0, append_at_old past (e ∷ []) i had.0 had.1, inr had.2) | inr own ↦ (e, cc, inl (sym own.1, own.0)) ]),
+        (λ s. elim (bits.0 s) [
+          | inl old ↦ let had = seen.0 old in (had.0, append_at_old past (e ∷ []) i had.0 had.1, inr had.2)
+          | inr own ↦ (e, cc, inl (sym own.1, own.0))
+        ]),
         (λ (s, at, knows). elim knows [
           | inl (here, who) ↦ bits.1 (inr (ap (λ (s : Event). s.who) (at_last i s at here) ∙ who, sym here))
           | inr old ↦ bits.1 (inl (seen.1 (s, at_old i s at (seen_within caps past i s.who g old), old)))

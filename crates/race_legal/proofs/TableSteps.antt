@@ -1,6 +1,7 @@
 -- The tables of goroutines and of values, one event on: each changes where its word does.
 use Rattle.std.proofs.Common.{◌≡◌, ℕ, ◌<◌, ◌==◌, ◌||◌, ◌&&◌, Bool, true, false, List, length, Some, None, unwrap_or}
-use Rattle.std.proofs.{Common.{get_or, set, if◌then◌else◌, refl, sym, arith, inl, inr, ne_eqb, eq-eqb}, lemmas.Bool.cases_eq}
+use Rattle.std.proofs.Common.{get_or, set, if◌then◌else◌, refl, sym, arith, inl, inr, ne_eqb, eq-eqb}
+use Rattle.std.proofs.{lemmas.Bool.cases_eq}
 use Rattle.std.proofs.{lemmas.List.{get_or-set_same, get_or-set_other}, Math.Bool.{and-true, or-false}}
 use Rattle.race_records.specs.declared.event.Op.{Op, TheVariants.{Go, Exit, Write}}
 use Rattle.race_model.specs.{Events.{starts, is_exit}, State.written}

@@ -1,11 +1,15 @@
 -- Verdicts on small lists, by tests that compute: on a list that is written out, refl answers.
-use Rattle.std.proofs.Common.{◌≡◌, ◌⊎◌, ℕ, zero, suc, ◌<◌, ◌||◌, ◌&&◌, not, nat_lt, ◌≢◌, Bool, true, false, Option, List, [], ◌∷◌}
-use Rattle.std.proofs.Common.{◌++◌, length, take, Some, None, is_none, slice_get, refl, sym, ap, ◌∙◌, subst, inl, inr, arith}
+use Rattle.std.proofs.Common.{◌≡◌, ◌⊎◌, ℕ, zero, suc, ◌<◌, ◌||◌, ◌&&◌, not, nat_lt, ◌≢◌, Bool, true, false, Option}
+use Rattle.std.proofs.Common.{List, [], ◌∷◌}
+use Rattle.std.proofs.Common.{◌++◌, length, take, Some, None, is_none, slice_get, refl, sym, ap, ◌∙◌, subst, inl, inr}
+use Rattle.std.proofs.Common.{arith}
 use Rattle.std.proofs.{Common.{eqb-true, IsTrue}, lemmas.Bool.{cases_order, or_left, or_right, or_cases, and_parts}}
 use Rattle.std.proofs.lemmas.{Bool.Decides.{not_from_Decides, nat_tests}, Option.slice_get_within}
 use Rattle.race_records.specs.declared.event.{Event.Event, Op.{Op, TheVariants.{Read, Write}}}
-use Rattle.race_model.specs.{Events.{At, writes, accesses, is_access}, Order.HappensBefore, Legal.{broken, IsLegal, IsIllegalAt}}
-use Rattle.race_model.specs.{Race.{IsAccessOf, IsWriteOf, IsRace, IsReportedRace, IsDataRaceFree}, Reorder.{StandsBefore, own_order}}
+use Rattle.race_model.specs.{Events.{At, writes, accesses, is_access}, Order.HappensBefore}
+use Rattle.race_model.specs.Legal.{broken, IsLegal, IsIllegalAt}
+use Rattle.race_model.specs.Race.{IsAccessOf, IsWriteOf, IsRace, IsReportedRace, IsDataRaceFree}
+use Rattle.race_model.specs.Reorder.{StandsBefore, own_order}
 use Rattle.race_model.{specs.Verdict.{Race, AreReportedRaces}, proofs.Indexes.at_same}
 use Rattle.race_model.proofs.{ReorderLemmas.{passes_from, is_access_from}, OwnOrder.{own_each, own_stands_before}}
 use Rattle.race_model.proofs.{LegalSteps.{AllKept, legal_none, legal_by}, RaceSteps.race_turned}

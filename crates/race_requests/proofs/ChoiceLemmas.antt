@@ -1,6 +1,7 @@
 -- What a listed choice is: what each who takes part in its event is told.
 use Rattle.std.proofs.Common.{◌≡◌, ◌==◌, ℕ, zero, suc, ◌<◌, ◌≤◌, ◌+◌, ◌%◌, ◌++◌, ◌&&◌, Bool, true, false, cond, List}
-use Rattle.std.proofs.Common.{[], ◌∷◌, map, filter, flat_map, length, option_map, All, Option, Some, None, IfSome, is_none}
+use Rattle.std.proofs.Common.{[], ◌∷◌, map, filter, flat_map, length, option_map, All, Option, Some, None, IfSome}
+use Rattle.std.proofs.Common.{is_none}
 use Rattle.std.proofs.Common.{refl, sym, ap, ◌∙◌, subst, arith, slice_get, eqb-true, eq-eqb}
 use Rattle.std.proofs.lemmas.{Bool.Decides.nat_tests, Option.{none-some, slice_get_within, get_or_from_slice_get}}
 use Rattle.std.{proofs.lemmas.List.Elements.filter_passes, specs.List.range_with_len}

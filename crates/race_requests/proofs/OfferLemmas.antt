@@ -1,7 +1,8 @@
 -- A list of offers, read and made longer by its cases and values.
 use Rattle.std.proofs.Common.{◌≡◌, ℕ, zero, suc, ◌<◌, ◌≤◌, ◌&&◌, cond, nat_lt, nat_le, Bool, true, false, List, [], ◌∷◌}
 use Rattle.std.proofs.Common.{◌++◌, length, map, set, get_or, Option, Some, None, IfSome, IsTrue, slice_get, true≢false}
-use Rattle.std.proofs.{Common.{refl, sym, ap, ◌∙◌, arith}, lemmas.{Bool.{and_parts, Decides.nat_tests}, Option.none-some}}
+use Rattle.std.proofs.Common.{refl, sym, ap, ◌∙◌, arith}
+use Rattle.std.proofs.lemmas.{Bool.{and_parts, Decides.nat_tests}, Option.none-some}
 use Rattle.std.specs.List.{list_all}
 use Rattle.race_records.specs.declared.{cases.{TheConstants.MAX_CASES, Case.Case, Dir.Dir}, kind.Kind.Kind}
 use Rattle.race_records.specs.{Cases.{kept_chan, kept as kept_case}, Parts.{case_is_in_range, chan_is_in_range}}

@@ -1,6 +1,7 @@
 -- What a waiting list names has a row in the tables of a replay that stands for its events.
 use Rattle.std.proofs.Common.{ℕ, ◌≡◌, ◌<◌, ◌≤◌, All, slice_get, nat_lt, true, IfSome, List, Option}
-use Rattle.std.proofs.{Common.{Some, None, IsTrue, refl, sym, ap, subst, arith}, lemmas.Bool.{and_parts, Decides.nat_tests}}
+use Rattle.std.proofs.Common.{Some, None, IsTrue, refl, sym, ap, subst, arith}
+use Rattle.std.proofs.lemmas.Bool.{and_parts, Decides.nat_tests}
 use Rattle.race_records.specs.declared.{event.Event.Event, kind.Kind.Kind}
 use Rattle.race_records.specs.Declarations.{Declaration, count_of, counts_of}
 use Rattle.race_legal.specs.{ReplayState.{ReplayState, counts_in}, StandsFor.StandsFor}

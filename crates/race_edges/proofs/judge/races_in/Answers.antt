@@ -3,7 +3,7 @@ use Rattle.std.proofs.lemmas.{Grind.common_steps, List.length-take-le, Result.{I
 use Rattle.std.proofs.Common.{◌≡◌, ◌∙◌, List, length, take, subst, arith, rules}
 use Rattle.race_records.specs.declared.event.Event.{Event}
 use Rattle.race_edges.specs.Partners.{found_after}
-use Rattle.race_edges.proofs.JudgeSteps.{has_tables, tables_none, tables_next, races_listed}
+use Rattle.race_edges.proofs.JudgeSteps.{has_tables, tables_next, races_listed}
 use Rattle.race_edges.proofs.judge.races_in.Goals as goal
 
 pub look-requires-clause-row : goal.look-requires-clause-row

@@ -16,47 +16,37 @@ capacity-requires g c =
 
 pub returns-then-is_receive : goal.returns-then-is_receive
 returns-then-is_receive g c =
-    let trace = c.args.trace.now in
     (λ i. (c.get.ensures i + (c.capacity.ensures ∙ ap (λ (decls : DeclsState). capacity_of decls.declarations c.in-Send.chan) c.decls.ensures.decls) i)
     == c.get-then-is_receive.ensures i)
-    ∙ told_send (capacities trace) trace.events c.args.numbers.now c.requires.numbers c.args.from c.args.to c.requires.earlier
-    c.event-source.result.now c.event-target.result.now c.event-source.ensures.event c.event-target.ensures.event
-    c.in-Send.chan c.in-Send.field-1 c.in-Send.is (sym c.if-is_receive.ensures)
+    ∙ told_send (capacities c.args.trace.now) c.requires.numbers c.args.from c.args.to c.requires.earlier
+    c.event-source.ensures.event c.event-target.ensures.event c.in-Send.chan c.in-Send.field-1 c.in-Send.is (sym c.if-is_receive.ensures)
 
 pub returns-in-RecvClosed : goal.returns-in-RecvClosed
 returns-in-RecvClosed g c = search rules steps 100000
 
 pub returns-in-Lock : goal.returns-in-Lock
 returns-in-Lock g c =
-    let trace = c.args.trace.now in
     c.is_before_lock.ensures
-    ∙ told_lock (capacities trace) trace.events c.args.numbers.now c.requires.numbers c.args.from c.args.to c.requires.earlier
-    c.event-source.result.now c.event-target.result.now c.event-source.ensures.event c.event-target.ensures.event
-    c.in-Lock.lock (Lock c.in-Lock.lock) c.in-Lock.is refl refl
+    ∙ told_lock (capacities c.args.trace.now) c.requires.numbers c.args.from c.args.to c.requires.earlier
+    c.event-source.ensures.event c.event-target.ensures.event c.in-Lock.lock (Lock c.in-Lock.lock) c.in-Lock.is refl refl
 
 pub returns-in-RLock : goal.returns-in-RLock
 returns-in-RLock g c =
-    let trace = c.args.trace.now in
     c.is_last_unlock.ensures
-    ∙ told_read_lock (capacities trace) trace.events c.args.numbers.now c.requires.numbers c.args.from c.args.to c.requires.earlier
-    c.event-source.result.now c.event-target.result.now c.event-source.ensures.event c.event-target.ensures.event
-    c.in-RLock.lock (RLock c.in-RLock.lock) c.in-RLock.is refl refl
+    ∙ told_read_lock (capacities c.args.trace.now) c.requires.numbers c.args.from c.args.to c.requires.earlier
+    c.event-source.ensures.event c.event-target.ensures.event c.in-RLock.lock (RLock c.in-RLock.lock) c.in-RLock.is refl refl
 
 pub returns-in-TryLock : goal.returns-in-TryLock
 returns-in-TryLock g c =
-    let trace = c.args.trace.now in
     c.is_before_lock-in-TryLock.ensures
-    ∙ told_lock (capacities trace) trace.events c.args.numbers.now c.requires.numbers c.args.from c.args.to c.requires.earlier
-    c.event-source.result.now c.event-target.result.now c.event-source.ensures.event c.event-target.ensures.event
-    c.in-TryLock.lock (TryLock c.in-TryLock.lock) c.in-TryLock.is refl refl
+    ∙ told_lock (capacities c.args.trace.now) c.requires.numbers c.args.from c.args.to c.requires.earlier
+    c.event-source.ensures.event c.event-target.ensures.event c.in-TryLock.lock (TryLock c.in-TryLock.lock) c.in-TryLock.is refl refl
 
 pub returns-in-TryRLock : goal.returns-in-TryRLock
 returns-in-TryRLock g c =
-    let trace = c.args.trace.now in
     c.is_last_unlock-in-TryRLock.ensures
-    ∙ told_read_lock (capacities trace) trace.events c.args.numbers.now c.requires.numbers c.args.from c.args.to c.requires.earlier
-    c.event-source.result.now c.event-target.result.now c.event-source.ensures.event c.event-target.ensures.event
-    c.in-TryRLock.lock (TryRLock c.in-TryRLock.lock) c.in-TryRLock.is refl refl
+    ∙ told_read_lock (capacities c.args.trace.now) c.requires.numbers c.args.from c.args.to c.requires.earlier
+    c.event-source.ensures.event c.event-target.ensures.event c.in-TryRLock.lock (TryRLock c.in-TryRLock.lock) c.in-TryRLock.is refl refl
 
 pub returns-then-is_send : goal.returns-then-is_send
 returns-then-is_send g c = grind (arith, elements) steps 1000000

@@ -1,8 +1,8 @@
--- The text of drawings. Events are printed with numbers from 1, and as the trace has them. A tab in it marks where the text of a line begins
+-- The text of drawings. Events are printed as the trace has them. A tab in it marks where the text of a line begins
 -- (Fold).
-use Rattle.std.specs.Prelude.{ℕ, if◌then◌else◌, ◌<◌, nat_lt, ◌==◌, ◌+◌, ◌-◌, ◌&&◌, ◌||◌, not, Bool, true, false, All}
-use Rattle.std.specs.Prelude.{List, [], ◌∷◌, ◌++◌, length, take, slice_get, codes, decimal, unwrap_or, Option, Some}
-use Rattle.std.specs.{Prelude.{None, IfSome}, List.{concat, flat_map, list_any}}
+use Rattle.std.specs.Prelude.{ℕ, if◌then◌else◌, ◌<◌, nat_lt, ◌==◌, ◌&&◌, ◌||◌, not, Bool, true, false, All}
+use Rattle.std.specs.Prelude.{List, [], ◌++◌, length, codes, Option, Some, None, IfSome}
+use Rattle.std.specs.List.{flat_map, list_any}
 use Rattle.race_records.specs.Events.{TraceState}
 use Rattle.race_text.specs.Text.{ended}
 use Rattle.race_verdict.specs.{Races.race_of, declared.races.Race.Race}
@@ -10,44 +10,38 @@ use Rattle.race_edges.specs.declared.{fault.TheConstants.MAX_PLAIN_EVENTS, listi
 use Rattle.race_report.specs.{Printable.IsOf, Report.{newline, access_word, race_line, races_line}}
 use Rattle.race_draw.specs.declared.{arrow.{Arrow.Arrow, Lane.Lane}, cells.{Column.Column, Line.Line}}
 use Rattle.race_draw.specs.{Layout.{LayoutState, missing}, Cells.{end_at, line_at, cell, lane_cell}}
-use Rattle.race_draw.specs.{Words.{event_text, name_at, op_at}, Fold.{folded, line_start}}
-
--- as many blanks, up to ten
-abbrev pub blanks : ℕ → List ℕ
-blanks n = take n (codes "          ")
-
--- a number that has this width with blanks in front, since an event's number has at most ten digits
-abbrev pub number_in : ℕ → ℕ → List ℕ
-number_in width n = blanks (width - length (decimal n)) ++ decimal n
-
--- the number of the last event that is shown is as wide as any
-abbrev pub width_of : List ℕ → ℕ
-width_of rows = length (decimal (unwrap_or (slice_get rows (length rows - 1)) 0 + 1))
+use Rattle.race_draw.specs.{Words.{event_text, name_at, op_at, aligned, number_in}, Fold.{folded, line_start}}
 
 -- the cells of a line, and the number of its event
-unfoldable pub line_front : ℕ → List Arrow → Line → List ℕ
-line_front width arrows line =
-    concat (cell line Column.First ∷ cell line Column.Second ∷ cell line Column.Other
-    ∷ lane_cell arrows line Lane.Missing ∷ lane_cell arrows line Lane.Start ∷ lane_cell arrows line Lane.Way
-    ∷ lane_cell arrows line Lane.Next
-    ∷ codes "  " ∷ blanks (width - length (decimal (line.at + 1))) ∷ decimal (line.at + 1) ∷ [])
+unfoldable pub line_front : LayoutState → Line → List ℕ
+line_front l line =
+    cell line Column.First ++ cell line Column.Second ++ cell line Column.Other
+    ++ lane_cell l.arrows line Lane.Missing ++ lane_cell l.arrows line Lane.Start ++ lane_cell l.arrows line Lane.Way
+    ++ lane_cell l.arrows line Lane.Next ++ aligned l.rows line.at
 
 -- the event itself, unless it stands on the line before
 abbrev pub line_end : TraceState → Line → List ℕ
 line_end trace line = if line.bare then newline else codes "  \t" ++ event_text trace line.at
 
-abbrev pub line_text : TraceState → ℕ → List Arrow → Line → List ℕ
-line_text trace width arrows line = line_front width arrows line ++ line_end trace line
+abbrev pub line_text : TraceState → LayoutState → Line → List ℕ
+line_text trace l line = line_front l line ++ line_end trace line
 
 -- the line of the arrow, where it leaves event k or enters it
-abbrev pub end_text : TraceState → Edge → ℕ → List Arrow → ℕ → Bool → Arrow → List ℕ
-end_text trace m width arrows k enters a =
-    if end_at a enters == k then line_text trace width arrows (line_at m a enters (op_at trace.events k)) else []
+abbrev pub end_text : TraceState → LayoutState → ℕ → Bool → Arrow → List ℕ
+end_text trace l k enters a =
+    if end_at a enters == k then line_text trace l (line_at (missing trace.events l.race) a enters (op_at trace.events k)) else []
 
--- the lines of event k: where arrows leave it, and where they enter it
-abbrev pub row_text : TraceState → Edge → ℕ → List Arrow → ℕ → List ℕ
-row_text trace m width arrows k =
-    flat_map (end_text trace m width arrows k false) arrows ++ flat_map (end_text trace m width arrows k true) arrows
+-- a line for each arrow that leaves event k, or for each that enters it
+abbrev pub ends_text : TraceState → LayoutState → ℕ → Bool → List ℕ
+ends_text trace l k enters = flat_map (end_text trace l k enters) l.arrows
+
+-- the lines of event k
+abbrev pub row_text : TraceState → LayoutState → ℕ → List ℕ
+row_text trace l k = ends_text trace l k false ++ ends_text trace l k true
+
+-- the lines of all events that are shown
+abbrev pub rows_text : TraceState → LayoutState → List ℕ
+rows_text trace l = flat_map (row_text trace l) l.rows
 
 -- another goroutine than the two
 abbrev pub is_other : Edge → ℕ → Bool
@@ -89,23 +83,23 @@ abbrev pub note_of_size : ℕ → List ℕ
 note_of_size events = if nat_lt MAX_PLAIN_EVENTS events then ended (codes "   (of more than 2,000 events no edge is drawn)") else []
 
 -- the heads of the columns, each above its own
-unfoldable pub heads : TraceState → Race → List Arrow → List ℕ
-heads trace r arrows =
-    concat (newline ∷ codes "   " ∷ name_at trace r.first ∷ newline ∷ codes "   |       " ∷ name_at trace r.second ∷ newline
-    ∷ others_head (has_others (missing trace.events r) arrows) ∷ legend (tells_apart arrows) ∷ note_of_size (length trace.events) ∷ [])
+unfoldable pub heads : TraceState → LayoutState → List ℕ
+heads trace l =
+    codes "\n   " ++ name_at trace l.race.first ++ codes "\n   |       " ++ name_at trace l.race.second ++ newline
+    ++ others_head (has_others (missing trace.events l.race) l.arrows) ++ legend (tells_apart l.arrows) ++ note_of_size (length trace.events)
 
 -- which event the first access is, and what the second one has seen of its goroutine
 unfoldable pub sentence_front : TraceState → Race → List ℕ
 sentence_front trace r =
-    concat (codes "\n\t" ∷ name_at trace r.first ∷ codes "'s " ∷ access_word (op_at trace.events r.first)
-    ∷ codes " is event " ∷ decimal (r.first + 1) ∷ codes ", and " ∷ name_at trace r.second ∷ codes " has seen " ∷ [])
+    codes "\n\t" ++ name_at trace r.first ++ codes "'s " ++ access_word (op_at trace.events r.first)
+    ++ number_in (codes " is event ") r.first (codes ", and ") ++ name_at trace r.second ++ codes " has seen "
 
 -- nothing, or all up to an event
-unfoldable pub none_seen : TraceState → Race → List ℕ
-none_seen trace r = concat (codes "nothing of " ∷ name_at trace r.first ∷ newline ∷ [])
+abbrev pub none_seen : TraceState → Race → List ℕ
+none_seen trace r = codes "nothing of " ++ name_at trace r.first ++ newline
 
-unfoldable pub some_seen : TraceState → Race → ℕ → List ℕ
-some_seen trace r p = concat (name_at trace r.first ∷ codes " up to event " ∷ decimal (p + 1) ∷ codes ": " ∷ [])
+abbrev pub some_seen : TraceState → Race → ℕ → List ℕ
+some_seen trace r p = name_at trace r.first ++ number_in (codes " up to event ") p (codes ": ")
 
 abbrev pub sentence_end : TraceState → Race → Option ℕ → List ℕ
 sentence_end trace r None = none_seen trace r
@@ -114,21 +108,10 @@ sentence_end trace r (Some p) = some_seen trace r p ++ event_text trace p
 abbrev pub sentence : TraceState → Race → Option ℕ → List ℕ
 sentence trace r seen = sentence_front trace r ++ sentence_end trace r seen
 
--- the lines of all events that are shown
-abbrev pub rows_text : TraceState → Race → List Arrow → List ℕ → List ℕ
-rows_text trace r arrows rows = flat_map (row_text trace (missing trace.events r) (width_of rows) arrows) rows
-
--- the heads of the columns, the lines below them, and the sentence
-abbrev pub picture_text : TraceState → Race → Option ℕ → List Arrow → List ℕ → List ℕ
-picture_text trace r seen arrows rows = heads trace r arrows ++ (rows_text trace r arrows rows ++ sentence trace r seen)
-
--- behind an empty line and a tab the line of the race, and its picture
-abbrev pub spaced_text : TraceState → Race → Option ℕ → List Arrow → List ℕ → List ℕ
-spaced_text trace r seen arrows rows = codes "\n\t" ++ (race_line trace (race_of r) ++ picture_text trace r seen arrows rows)
-
--- so it is with what is laid out
+-- behind an empty line and a tab the line of the race; then the heads of the columns, the lines below them, and the sentence
 abbrev pub drawing_text : TraceState → LayoutState → List ℕ
-drawing_text trace l = spaced_text trace l.race l.seen l.arrows l.rows
+drawing_text trace l =
+    codes "\n\t" ++ (race_line trace (race_of l.race) ++ (heads trace l ++ (rows_text trace l ++ sentence trace l.race l.seen)))
 
 -- how many pictures there are, and each of them
 abbrev pub long_lines : TraceState → List LayoutState → List ℕ

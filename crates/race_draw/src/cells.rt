@@ -69,8 +69,8 @@ fn mark_of(lane: Lane, op: &Op) -> Mark
     }
 }
 
-// The event that the arrow leaves, or the one that it enters.
-fn end_at(arrow: &Arrow, enters: bool) -> u32
+/// The event that the arrow leaves, or the one that it enters.
+pub(crate) fn end_at(arrow: &Arrow, enters: bool) -> u32
     ensures { result ≡ spec.end_at arrow.now enters }
 {
     if enters {

@@ -1,20 +1,16 @@
 //! The chart of a clean trace as text.
-ghost use Rattle.std.specs.{Prelude.{◌≡◌, ◌<◌, ◌++◌, All, length, codes, IfOk}, List.flat_map};
-ghost use Rattle.race_records.specs.{declared.kind.Kind.Kind, Declarations.count_of, Page.Printing};
-ghost use Rattle.race_text.specs.Output.{Writes};
-ghost use Rattle.race_report.specs.Report.{newline, report};
+ghost use Rattle.std.specs.Prelude.{◌≡◌, ◌<◌, ◌++◌, IfOk, OnOk};
+ghost use Rattle.std.specs.List.{flat_map};
+ghost use Rattle.race_records.specs.{declared.kind.Kind.Kind, Declarations.count_of};
 ghost use Rattle.race_draw.specs.Chart.{CanBeCharted};
-ghost use Rattle.race_model.specs.Verdict as model;
 ghost use Rattle.race_draw.specs.Chart as spec;
 
-use crate::chart_rows::print_rows;
-use crate::clean::{CleanLayout, Strand};
+use crate::chart_rows::put_rows;
+use crate::clean::CleanLayout;
 use crate::fold::folded;
-use race_records::{Named, Page, Sink, Trace, WriteFault};
-use race_report::print_report;
-use race_verdict::Verdict;
+use crate::printed::put_clean;
+use race_records::{BLOCK, Named, Trace};
 use std::alloc::{AllocError, Allocator};
-use std::io::Write;
 
 /// The chart of a clean trace as a text, in lines of at most 100 columns.
 ///
@@ -27,203 +23,57 @@ pub fn chart_in_memory<A: Allocator + Copy, B: Allocator, C: Allocator>(
     requires { CanBeCharted trace.now layout.now }
     ensures { IfOk result (λ text. text.items ≡ spec.chart_text trace.now layout.now) }
 {
-    let text = in_long_lines(alloc, trace, layout)?;
+    let mut text = Vec::with_capacity(alloc, BLOCK)?;
+    put_clean(&mut text, trace)?;
+    text.extend_from_slice(b"\n")?;
+    put_heads(&mut text, trace, layout)?;
+    put_rows(&mut text, trace, layout)?;
     folded(alloc, text.as_slice())
 }
 
-// The same before its lines are folded.
-fn in_long_lines<A: Allocator, B: Allocator, C: Allocator>(
-    alloc: A,
+// Puts the heads of the columns, each above its own.
+fn put_heads<A: Allocator, B: Allocator, C: Allocator>(
+    out: &mut Vec<u8, A>,
     trace: &Trace<B>,
     layout: &CleanLayout<C>,
-) -> Result<Vec<u8, A>, AllocError>
+) -> Result<(), AllocError>
     requires { CanBeCharted trace.now layout.now }
-    ensures { IfOk result (λ text. text.items ≡ spec.long_lines trace.now layout.now) }
+    ensures { OnOk result (out.new.items ≡ out.old.items ++ spec.heads trace.now layout.now) }
 {
-    let mut sink = Sink::new(Vec::new(alloc));
-    match put_chart(&mut sink, trace, layout) {
-        Ok(()) => Ok(sink.into_writer()),
-        Err(_) => Err(AllocError),
-    }
-}
-
-// Writes it.
-fn put_chart<W: Write, A: Allocator, B: Allocator>(
-    sink: &mut Sink<W>,
-    trace: &Trace<A>,
-    layout: &CleanLayout<B>,
-) -> Result<(), WriteFault>
-    requires { CanBeCharted trace.now layout.now }
-    ensures { Writes W.contents result sink.old sink.new (spec.long_lines trace.now layout.now) }
-{
-    let mut page = Page::new();
-    match print_chart(&mut page, sink, trace, layout) {
-        Ok(()) => page.flush(sink),
-        Err(fault) => Err(fault),
-    }
-}
-
-// Prints the report, and the picture behind it.
-fn print_chart<W: Write, A: Allocator, B: Allocator>(
-    page: &mut Page,
-    sink: &mut Sink<W>,
-    trace: &Trace<A>,
-    layout: &CleanLayout<B>,
-) -> Result<(), WriteFault>
-    requires { CanBeCharted trace.now layout.now }
-    ensures { Printing W.contents result sink.old sink.new page.old page.new
-        (spec.long_lines trace.now layout.now) }
-{
-    match print_clean(page, sink, trace) {
-        Ok(()) => print_spaced(page, sink, trace, layout),
-        Err(fault) => Err(fault),
-    }
-}
-
-// Prints the report.
-fn print_clean<W: Write, A: Allocator>(
-    page: &mut Page,
-    sink: &mut Sink<W>,
-    trace: &Trace<A>,
-) -> Result<(), WriteFault>
-    ensures { Printing W.contents result sink.old sink.new page.old page.new
-        (report trace.now model.Clean) }
-{
-    let clean: Verdict<A> = Verdict::Clean;
-    print_report(page, sink, trace, &clean)
-}
-
-// Prints the picture behind an empty line.
-fn print_spaced<W: Write, A: Allocator, B: Allocator>(
-    page: &mut Page,
-    sink: &mut Sink<W>,
-    trace: &Trace<A>,
-    layout: &CleanLayout<B>,
-) -> Result<(), WriteFault>
-    requires { CanBeCharted trace.now layout.now }
-    ensures { Printing W.contents result sink.old sink.new page.old page.new
-        (newline ++ spec.picture_text trace.now layout.now) }
-{
-    match page.put(sink, b"\n") {
-        Ok(()) => print_picture(page, sink, trace, layout),
-        Err(fault) => Err(fault),
-    }
-}
-
-// Prints the heads of the columns, and the rows.
-fn print_picture<W: Write, A: Allocator, B: Allocator>(
-    page: &mut Page,
-    sink: &mut Sink<W>,
-    trace: &Trace<A>,
-    layout: &CleanLayout<B>,
-) -> Result<(), WriteFault>
-    requires { CanBeCharted trace.now layout.now }
-    ensures { Printing W.contents result sink.old sink.new page.old page.new
-        (spec.picture_text trace.now layout.now) }
-{
-    print_columns(
-        page,
-        sink,
-        trace,
-        layout.strands(),
-        layout.columns(),
-        layout.shares(),
-        layout.lanes(),
-        layout.rows(),
-    )
-}
-
-// Prints them from the parts of a layout.
-fn print_columns<W: Write, A: Allocator>(
-    page: &mut Page,
-    sink: &mut Sink<W>,
-    trace: &Trace<A>,
-    strands: &[Strand],
-    columns: &[u32],
-    shares: bool,
-    lanes: &[u32],
-    rows: &[u32],
-) -> Result<(), WriteFault>
-    requires columns { All (λ g. g < count_of Kind.Goroutine trace.now.decls.declarations) columns.now }
-    requires rows { All (λ k. k < length trace.now.events) rows.now }
-    ensures { Printing W.contents result sink.old sink.new page.old page.new
-        (spec.heads trace.now columns.now shares
-        ++ spec.rows_text trace.now strands.now columns.now lanes.now rows.now) }
-{
-    match print_heads(page, sink, trace, columns, shares) {
-        Ok(()) => print_rows(page, sink, trace, strands, columns, lanes, rows),
-        Err(fault) => Err(fault),
-    }
-}
-
-// Prints the heads of the columns, each above its own.
-fn print_heads<W: Write, A: Allocator>(
-    page: &mut Page,
-    sink: &mut Sink<W>,
-    trace: &Trace<A>,
-    columns: &[u32],
-    shares: bool,
-) -> Result<(), WriteFault>
-    requires { All (λ g. g < count_of Kind.Goroutine trace.now.decls.declarations) columns.now }
-    ensures { Printing W.contents result sink.old sink.new page.old page.new
-        (flat_map (spec.head_line trace.now columns.now shares) columns.now) }
-{
-    for goroutine in columns {
-        if let Err(fault) = print_head(page, sink, trace, columns, shares, *goroutine) {
-            return Err(fault);
-        }
+    for goroutine in layout.columns() {
+        put_head(out, trace, layout, *goroutine)?;
     }
     Ok(())
 }
 
-// Prints the head of a column.
-fn print_head<W: Write, A: Allocator>(
-    page: &mut Page,
-    sink: &mut Sink<W>,
-    trace: &Trace<A>,
-    columns: &[u32],
-    shares: bool,
+// Puts the head of a column.
+fn put_head<A: Allocator, B: Allocator, C: Allocator>(
+    out: &mut Vec<u8, A>,
+    trace: &Trace<B>,
+    layout: &CleanLayout<C>,
     goroutine: u32,
-) -> Result<(), WriteFault>
+) -> Result<(), AllocError>
     requires { goroutine < count_of Kind.Goroutine trace.now.decls.declarations }
-    ensures { Printing W.contents result sink.old sink.new page.old page.new
-        (spec.head_line trace.now columns.now shares goroutine) }
+    ensures { OnOk result (out.new.items ≡ out.old.items ++ spec.head_line trace.now layout.now goroutine) }
 {
-    match print_bars(page, sink, columns, goroutine) {
-        Ok(()) => print_name(page, sink, trace, columns, shares, goroutine),
-        Err(fault) => Err(fault),
-    }
+    put_bars(out, layout.columns(), goroutine)?;
+    out.extend_from_slice(b" ")?;
+    out.extend_from_slice(head_name(trace, layout, goroutine).as_bytes())?;
+    out.extend_from_slice(b"\n")
 }
 
-// Prints the lines of the columns left of the goroutine's.
-fn print_bars<W: Write>(
-    page: &mut Page,
-    sink: &mut Sink<W>,
+// Puts the lines of the columns left of the goroutine's.
+fn put_bars<A: Allocator>(
+    out: &mut Vec<u8, A>,
     columns: &[u32],
     goroutine: u32,
-) -> Result<(), WriteFault>
-    ensures { Printing W.contents result sink.old sink.new page.old page.new
-        (flat_map (spec.bar goroutine) columns.now) }
+) -> Result<(), AllocError>
+    ensures { OnOk result (out.new.items ≡ out.old.items ++ flat_map (spec.bar goroutine) columns.now) }
 {
     for column in columns {
-        if let Err(fault) = print_bar(page, sink, goroutine, *column) {
-            return Err(fault);
-        }
+        out.extend_from_slice(bar(goroutine, *column))?;
     }
     Ok(())
-}
-
-// Prints one of them.
-fn print_bar<W: Write>(
-    page: &mut Page,
-    sink: &mut Sink<W>,
-    goroutine: u32,
-    column: u32,
-) -> Result<(), WriteFault>
-    ensures { Printing W.contents result sink.old sink.new page.old page.new
-        (spec.bar goroutine column) }
-{
-    page.put(sink, bar(goroutine, column))
 }
 
 // The line of a column, where it is left of the goroutine's.
@@ -240,47 +90,18 @@ pub(crate) fn last_of(columns: &[u32]) -> u32
     columns.last().copied().unwrap_or(0)
 }
 
-// Whether the goroutine shares its column.
-fn is_shared(columns: &[u32], shares: bool, goroutine: u32) -> bool
-    ensures { result ≡ spec.is_shared columns.now shares goroutine }
-{
-    shares && goroutine == last_of(columns)
-}
-
 // What stands above the goroutine's column.
-fn head_name<'a, A: Allocator>(
-    trace: &'a Trace<A>,
-    columns: &[u32],
-    shares: bool,
+fn head_name<'a, B: Allocator, C: Allocator>(
+    trace: &'a Trace<B>,
+    layout: &CleanLayout<C>,
     goroutine: u32,
 ) -> &'a str
     requires { goroutine < count_of Kind.Goroutine trace.now.decls.declarations }
-    ensures { result.now ≡ spec.head_name trace.now columns.now shares goroutine }
+    ensures { result.now ≡ spec.head_name trace.now layout.now goroutine }
 {
-    if is_shared(columns, shares, goroutine) {
+    if layout.shares() && goroutine == last_of(layout.columns()) {
         "others"
     } else {
         trace.decls().name(Named::Goroutine(goroutine))
     }
-}
-
-// Prints it behind a blank.
-fn print_name<W: Write, A: Allocator>(
-    page: &mut Page,
-    sink: &mut Sink<W>,
-    trace: &Trace<A>,
-    columns: &[u32],
-    shares: bool,
-    goroutine: u32,
-) -> Result<(), WriteFault>
-    requires { goroutine < count_of Kind.Goroutine trace.now.decls.declarations }
-    ensures { Printing W.contents result sink.old sink.new page.old page.new
-        (codes " " ++ (spec.head_name trace.now columns.now shares goroutine ++ newline)) }
-{
-    let parts = [
-        b" ".as_slice(),
-        head_name(trace, columns, shares, goroutine).as_bytes(),
-        b"\n".as_slice(),
-    ];
-    page.put_all(sink, &parts)
 }

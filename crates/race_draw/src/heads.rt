@@ -1,16 +1,14 @@
 //! The heads of a drawing's columns.
-ghost use Rattle.std.specs.Prelude.{◌≡◌, ◌<◌, length};
-ghost use Rattle.race_records.specs.Page.{Printing};
+ghost use Rattle.std.specs.Prelude.{◌≡◌, ◌++◌, OnOk};
+ghost use Rattle.race_draw.specs.Text.{CanBeDrawn};
 ghost use Rattle.race_draw.specs.Text as spec;
 
 use crate::arrow::{Arrow, Lane};
-use crate::layout::missing;
-use crate::words::race_words;
+use crate::layout::{Layout, missing};
+use crate::words::name_at;
 use race_edges::{Edge, MAX_PLAIN_EVENTS};
-use race_records::{Page, Sink, Trace, WriteFault};
-use race_verdict::Race;
-use std::alloc::Allocator;
-use std::io::Write;
+use race_records::Trace;
+use std::alloc::{AllocError, Allocator};
 
 // Whether it is another goroutine than the two.
 fn is_other(missing: &Edge, goroutine: u32) -> bool
@@ -28,8 +26,8 @@ fn has_others(missing: &Edge, arrows: &[Arrow]) -> bool
     })
 }
 
-// The head of the column of the others, for as long as other words stand.
-fn others_head<'a>(is_used: bool, _words: &'a [u8]) -> &'a [u8]
+// The head of the column of the others, where it is used.
+fn others_head(is_used: bool) -> &'static [u8]
     ensures { result.now ≡ spec.others_head is_used }
 {
     if is_used {
@@ -81,8 +79,8 @@ fn tells_apart(arrows: &[Arrow]) -> bool
     has_way(arrows) && has_other_edge(arrows)
 }
 
-// What tells them apart, for as long as other words stand.
-fn legend<'a>(is_wanted: bool, _words: &'a [u8]) -> &'a [u8]
+// What tells them apart.
+fn legend(is_wanted: bool) -> &'static [u8]
     ensures { result.now ≡ spec.legend is_wanted }
 {
     if is_wanted {
@@ -92,8 +90,8 @@ fn legend<'a>(is_wanted: bool, _words: &'a [u8]) -> &'a [u8]
     }
 }
 
-// That no edge is drawn of so many events, for as long as other words stand.
-fn note_of_size<'a>(events: usize, _words: &'a [u8]) -> &'a [u8]
+// That no edge is drawn of so many events.
+fn note_of_size(events: usize) -> &'static [u8]
     ensures { result.now ≡ spec.note_of_size events }
 {
     if events > MAX_PLAIN_EVENTS {
@@ -103,36 +101,23 @@ fn note_of_size<'a>(events: usize, _words: &'a [u8]) -> &'a [u8]
     }
 }
 
+/// Puts the heads of the columns, each above its own, and below them what tells the arrows apart.
 #[tactic(auto, unfolding(crate::specs::Text::heads))]
-pub(crate) fn print_heads<W: Write, A: Allocator>(
-    page: &mut Page,
-    sink: &mut Sink<W>,
-    trace: &Trace<A>,
-    race: &Race,
-    arrows: &[Arrow],
-) -> Result<(), WriteFault>
-    requires first { race.now.first < length trace.now.events }
-    requires second { race.now.second < length trace.now.events }
-    ensures { Printing W.contents result sink.old sink.new page.old page.new
-        (spec.heads trace.now race.now arrows.now) }
+pub(crate) fn put_heads<A: Allocator, B: Allocator, C: Allocator>(
+    out: &mut Vec<u8, A>,
+    trace: &Trace<B>,
+    layout: &Layout<C>,
+) -> Result<(), AllocError>
+    requires { CanBeDrawn trace.now layout.now }
+    ensures { OnOk result (out.new.items ≡ out.old.items ++ spec.heads trace.now layout.now) }
 {
-    let words = race_words(trace, race);
-    let others = has_others(&missing(trace, race), arrows);
-    let head = others_head(others, words.first);
-    let apart = legend(tells_apart(arrows), words.first);
-    let count = trace.len();
-    let note = note_of_size(count, words.first);
-    let parts = [
-        b"\n".as_slice(),
-        b"   ".as_slice(),
-        words.first,
-        b"\n".as_slice(),
-        b"   |       ".as_slice(),
-        words.second,
-        b"\n".as_slice(),
-        head,
-        apart,
-        note,
-    ];
-    page.put_all(sink, &parts)
+    let (race, arrows) = (layout.race(), layout.arrows());
+    out.extend_from_slice(b"\n   ")?;
+    out.extend_from_slice(name_at(trace, race.first).as_bytes())?;
+    out.extend_from_slice(b"\n   |       ")?;
+    out.extend_from_slice(name_at(trace, race.second).as_bytes())?;
+    out.extend_from_slice(b"\n")?;
+    out.extend_from_slice(others_head(has_others(&missing(trace, race), arrows)))?;
+    out.extend_from_slice(legend(tells_apart(arrows)))?;
+    out.extend_from_slice(note_of_size(trace.len()))
 }

@@ -11,6 +11,7 @@ mod fold;
 mod heads;
 mod layout;
 mod lines;
+mod printed;
 mod reduced;
 mod sentence;
 mod strokes;

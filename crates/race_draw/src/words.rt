@@ -1,17 +1,12 @@
-//! The words of a drawing that come from the trace.
-ghost use Rattle.std.specs.Prelude.{◌≡◌, ◌<◌, length};
-ghost use Rattle.race_records.specs.Page.{Printing};
-ghost use Rattle.race_report.specs.Report.{access_word};
+//! The words of a drawing that come from the trace, and its numbers.
+ghost use Rattle.std.specs.Prelude.{◌≡◌, ◌+◌, ◌<◌, ◌++◌, length, decimal, OnOk};
 ghost use Rattle.race_draw.specs.Words as spec;
 
-use race_records::{Named, Op, Page, Sink, Trace, WriteFault};
-use race_report::access_word;
-use race_text::print_event;
-use race_verdict::Race;
-use std::alloc::Allocator;
-use std::io::Write;
+use itoa::Buffer;
+use race_records::{Named, Op, Trace};
+use std::alloc::{AllocError, Allocator};
 
-// The name of the goroutine whose event stands at the index.
+/// The name of the goroutine whose event stands at the index.
 pub(crate) fn name_at<A: Allocator>(trace: &Trace<A>, index: u32) -> &str
     requires { index < length trace.now.events }
     ensures { result.now ≡ spec.name_at trace.now index }
@@ -20,7 +15,7 @@ pub(crate) fn name_at<A: Allocator>(trace: &Trace<A>, index: u32) -> &str
     trace.decls().name(Named::Goroutine(event.who))
 }
 
-// What is done in the event at the index.
+/// What is done in the event at the index.
 pub(crate) fn op_at<A: Allocator>(trace: &Trace<A>, index: u32) -> &Op
     requires { index < length trace.now.events }
     ensures { result.now ≡ spec.op_at trace.now.events index }
@@ -28,38 +23,52 @@ pub(crate) fn op_at<A: Allocator>(trace: &Trace<A>, index: u32) -> &Op
     &trace.event(index as usize).op
 }
 
-// The words of a race: who does what first, and who comes second.
-#[derive(Clone, Copy)]
-pub(crate) struct RaceWords<'a> {
-    pub first: &'a [u8],
-    pub what: &'a [u8],
-    pub second: &'a [u8],
+// Puts the number of an event, counted from 1.
+fn put_number<A: Allocator>(out: &mut Vec<u8, A>, event: u32) -> Result<(), AllocError>
+    ensures { OnOk result (out.new.items ≡ out.old.items ++ decimal (event + 1)) }
+{
+    out.extend_from_slice(Buffer::new().format(u64::from(event) + 1).as_bytes())
 }
 
-pub(crate) fn race_words<'a, A: Allocator>(trace: &'a Trace<A>, race: &Race) -> RaceWords<'a>
-    requires first { race.now.first < length trace.now.events }
-    requires second { race.now.second < length trace.now.events }
-    ensures first { result.first.now ≡ spec.name_at trace.now race.now.first }
-    ensures what { result.what.now ≡ access_word (spec.op_at trace.now.events race.now.first) }
-    ensures second { result.second.now ≡ spec.name_at trace.now race.now.second }
+/// Puts it between these words.
+pub(crate) fn put_number_in<A: Allocator>(
+    out: &mut Vec<u8, A>,
+    before: &[u8],
+    event: u32,
+    behind: &[u8],
+) -> Result<(), AllocError>
+    ensures { OnOk result (out.new.items ≡ out.old.items ++ spec.number_in before.now event behind.now) }
 {
-    RaceWords {
-        first: name_at(trace, race.first).as_bytes(),
-        what: access_word(op_at(trace, race.first)).as_bytes(),
-        second: name_at(trace, race.second).as_bytes(),
-    }
+    out.extend_from_slice(before)?;
+    put_number(out, event)?;
+    out.extend_from_slice(behind)
 }
 
-// Prints the line of the trace that has the event.
-pub(crate) fn print_event_at<W: Write, A: Allocator>(
-    page: &mut Page,
-    sink: &mut Sink<W>,
-    trace: &Trace<A>,
-    index: u32,
-) -> Result<(), WriteFault>
-    requires { index < length trace.now.events }
-    ensures { Printing W.contents result sink.old sink.new page.old page.new
-        (spec.event_text trace.now index) }
+/// Puts it behind two spaces, as wide as any number of these rows.
+pub(crate) fn put_aligned<A: Allocator>(
+    out: &mut Vec<u8, A>,
+    rows: &[u32],
+    event: u32,
+) -> Result<(), AllocError>
+    ensures { OnOk result (out.new.items ≡ out.old.items ++ spec.aligned rows.now event) }
 {
-    print_event(page, sink, trace.decls(), trace.event(index as usize))
+    let width = digits(rows.last().copied().unwrap_or(0));
+    out.extend_from_slice(b"  ")?;
+    out.extend_from_slice(blanks(width.saturating_sub(digits(event))))?;
+    put_number(out, event)
+}
+
+// How many digits the number of an event has.
+fn digits(event: u32) -> usize
+    ensures { result ≡ length (decimal (event + 1)) }
+{
+    Buffer::new().format(u64::from(event) + 1).len()
+}
+
+// As many blanks, up to ten.
+fn blanks(count: usize) -> &'static [u8]
+    ensures { result.now ≡ spec.blanks count }
+{
+    let ten = b"          ".as_slice();
+    &ten[..count.min(ten.len())]
 }

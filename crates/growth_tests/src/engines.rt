@@ -130,7 +130,7 @@ const SHOWN: Ending = (
 
 const DRAWN: Ending = (status::CLEAN, Written::Drawing(392));
 
-const DRAWN_AS_SVG: Ending = (status::CLEAN, Written::Drawing(1153));
+const DRAWN_AS_SVG: Ending = (status::CLEAN, Written::Drawing(1353));
 
 // Gives its bytes, five a read.
 #[derive(Drop)]

@@ -23,7 +23,7 @@ pub fn size_of(text: &[u8]) -> Size
 {
     Size {
         width: extent(longest(text), 9, 32),
-        height: extent(lines(text), 18, 36),
+        height: extent(lines(text), 16, 36),
     }
 }
 
@@ -104,16 +104,26 @@ fn print_svg_head<W: Write>(
     ensures { Printing W.contents result sink.old sink.new page.old page.new (spec.svg_head size) }
 {
     let (mut width, mut height) = (Buffer::new(), Buffer::new());
-    let parts = [
-        b"<svg xmlns='http://www.w3.org/2000/svg' viewBox='0 0 ".as_slice(),
+    let (width, height) = (
         width.format(size.width).as_bytes(),
-        b" ".as_slice(),
         height.format(size.height).as_bytes(),
-        b"' style='color-scheme:light dark'>\n<style>\nrect { fill: #fff }\n".as_slice(),
+    );
+    let parts = [
+        b"<svg xmlns='http://www.w3.org/2000/svg' width='".as_slice(),
+        width,
+        b"' height='".as_slice(),
+        height,
+        b"' viewBox='0 0 ".as_slice(),
+        width,
+        b" ".as_slice(),
+        height,
+        b"' style='color-scheme:light dark'>\n<title>A run of goroutines</title>\n".as_slice(),
+        b"<desc>Each goroutine has a column, and time goes down. Lines between columns are synchronization; ".as_slice(),
+        b"dots are an order that is missing.</desc>\n<style>\nrect { fill: #fff }\n".as_slice(),
         b"text { font: 14px monospace; white-space: pre; fill: #222 }\n".as_slice(),
         b"@media (prefers-color-scheme: dark) { rect { fill: #111 } text { fill: #ddd } }\n".as_slice(),
         b"</style>\n<rect width='100%' height='100%'/>\n<text xml:space='preserve'".as_slice(),
-        b"><tspan x='16' dy='18'>".as_slice(),
+        b"><tspan x='16' dy='16'>".as_slice(),
     ];
     page.put_all(sink, &parts)
 }
@@ -165,7 +175,7 @@ fn escaped(byte: u8) -> Option<&'static [u8]>
     ensures { option_map (λ piece. piece.now) result ≡ spec.escaped byte }
 {
     match byte {
-        b'\n' => Some(b" </tspan\n><tspan x='16' dy='18'>".as_slice()),
+        b'\n' => Some(b" </tspan\n><tspan x='16' dy='16'>".as_slice()),
         b'&' => Some(b"&amp;".as_slice()),
         b'<' => Some(b"&lt;".as_slice()),
         b'>' => Some(b"&gt;".as_slice()),

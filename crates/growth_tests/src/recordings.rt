@@ -72,9 +72,8 @@ impl Growing for By {
     }
 }
 
-// The three lists of the log, the requests and what stands behind them, who is through, and the trace. Workers take a copy of the
-// declarations before.
-static CALLS: [(By, u64); 3] = [(By(None), 7), (By(Some(1)), 19), (By(Some(2)), 19)];
+// The three lists of the log, the requests, and the trace. Workers take a copy of the declarations before.
+static CALLS: [(By, u64); 3] = [(By(None), 5), (By(Some(1)), 17), (By(Some(2)), 17)];
 
 #[test]
 fn recordings(rt: HostRuntime) {

@@ -60,7 +60,7 @@ module _ {R : Type 0} where
         sound = λ on.
             let (before, sound) = sound_by bad test is on in
             rw (t.waiting, decls) (All-append (λ w. IsTrue (is_sound old.decls w)) old.waiting (w ∷ []) (holds.sound before)
-                (all_one (λ w. IsTrue (is_sound old.decls w)) w sound));
+            (all_one (λ w. IsTrue (is_sound old.decls w)) w sound));
         bad_waits = λ g named. rw (decls, events, t.waiting) (bad_by g bad test (sym is ∙ named));
       }
     where

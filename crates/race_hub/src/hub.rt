@@ -1,5 +1,5 @@
 //! The hub: the goroutines of a run, their requests, and the trace that they make.
-ghost use Rattle.std.specs.Prelude.{◌≡◌, ◌≢◌, ◌<◌, ◌⊎◌, ◌++◌, ◌∷◌, [], List, length, if◌then◌else◌, Some, None, Ok, Err};
+ghost use Rattle.std.specs.Prelude.{◌≡◌, ◌≢◌, ◌<◌, ◌⊎◌, ◌++◌, ◌∷◌, [], List, length, Some, None, Ok, Err};
 ghost use Rattle.std.specs.Prelude.{true, false, ◌≤◌, ◌==◌, ◌&&◌, is_none, IsTrue, All, IfOk, IfErr, IfSome, IsNone, OnOk};
 ghost use Rattle.std.specs.{Prelude.OnErr, List.find, Option.{option_copied, option_map}};
 ghost use Rattle.race_records.specs.{Refusal.{Refuses, AllowsUnless}, declared.kind.Kind.Kind};
@@ -18,7 +18,7 @@ ghost use Rattle.race_hub.specs.Submits as submits;
 
 use crate::firing::{Firing, firing_of, started_in};
 use crate::logs::Logs;
-use crate::moves::{begin, is_among, make_room, take_first, take_out, tell};
+use crate::moves::{begin, is_among, make_room, named, take_first, take_out, taken, tell};
 use crate::opening::{HubFault, fault_of, seated};
 use crate::track::least;
 use crate::waiters::request_of;
@@ -134,24 +134,6 @@ fn append<A: Allocator>(
         unreachable!();
     };
     Ok(())
-}
-
-// Whose request was bad, once this one's was or wasn't.
-fn named(known: Option<u32>, bad: bool, who: u32) -> Option<u32>
-    ensures { result ≡ (if bad then Some who else known) }
-{
-    if bad { Some(who) } else { known }
-}
-
-// What comes of a job that was put back, whose request was bad or not.
-fn taken<R, A: Allocator>(bad: bool) -> Result<(), SubmitFault<R, A>>
-    ensures { result ≡ (if bad then Err SubmitFault.BadRequest else Ok tt) }
-{
-    if bad {
-        Err(SubmitFault::BadRequest)
-    } else {
-        Ok(())
-    }
 }
 
 impl<R: Drop, A: Allocator + Copy> Hub<R, A> {
@@ -435,8 +417,20 @@ impl<R, A: Allocator> Hub<R, A> {
         make_room(&mut self.ready, &mut self.out)?;
         append(&mut self.replay, &mut self.trace, event)?;
         let (waiter, other) = take_out(&mut self.waiting, choice);
-        tell(&mut self.routines, &mut self.logs, &mut self.ready, Some(waiter), told);
-        tell(&mut self.routines, &mut self.logs, &mut self.ready, other, partner);
+        tell(
+            &mut self.routines,
+            &mut self.logs,
+            &mut self.ready,
+            Some(waiter),
+            told,
+        );
+        tell(
+            &mut self.routines,
+            &mut self.logs,
+            &mut self.ready,
+            other,
+            partner,
+        );
         begin(&mut self.ready, started);
         Ok(())
     }

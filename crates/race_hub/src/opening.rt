@@ -48,7 +48,11 @@ fn is_bad_limit(limit: u32) -> bool
 
 /// Why no hub is made, memory aside.
 #[tactic(auto, unfolding(crate::specs::Opening::hub_fault))]
-pub(crate) fn fault_of<A: Allocator>(decls: &Decls<A>, limit: u32, routines: usize) -> Option<HubFault>
+pub(crate) fn fault_of<A: Allocator>(
+    decls: &Decls<A>,
+    limit: u32,
+    routines: usize,
+) -> Option<HubFault>
     ensures fault { result ≡ hub_fault decls.now limit routines }
     ensures count { IsNone result → routines ≡ count_of Kind.Goroutine decls.now.declarations }
     ensures few { IsNone result → limit ≤ MAX_EVENTS }

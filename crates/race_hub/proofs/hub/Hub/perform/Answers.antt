@@ -94,7 +94,14 @@ fires g c =
       routine = firing.routine;
       events = c.in_ok-append.ensures.events;
       waiting = c.take_out-waiter.ensures.list;
-      ready = rw (c.begin.ensures.ready, c.tell-2.ensures.ready, c.tell.ensures.ready, c.make_room.ensures.ready, c.started_in-started.ensures, second) refl;
+      ready = rw (
+        c.begin.ensures.ready,
+        c.tell-2.ensures.ready,
+        c.tell.ensures.ready,
+        c.make_room.ensures.ready,
+        c.started_in-started.ensures,
+        second,
+      ) refl;
       routines = c.tell-2.ensures.routines
           ∙ partner_keeps c.take_out-waiter.result.1 (c.args.firing.choice.partner_offer - 1) c.args.firing.event.op c.args.firing.partner _ row
           ∙ c.tell.ensures.routines;

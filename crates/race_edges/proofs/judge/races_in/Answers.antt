@@ -22,8 +22,8 @@ pub loop-at-preserved : goal.loop-at-preserved
 loop-at-preserved g c =
     let after = rw c.event.ensures.event at c.in_ok-step.ensures.after in
     let noted = subst (λ (es : List Event). c.look.new.self
-        ≡ found_after c.loop-at.table.rows (take c.loop-at.at es) (length (take c.loop-at.at es)) c.event.result.now c.loop-at.found)
-        c.events.ensures.events c.look.ensures.found in
+    ≡ found_after c.loop-at.table.rows (take c.loop-at.at es) (length (take c.loop-at.at es)) c.event.result.now c.loop-at.found)
+    c.events.ensures.events c.look.ensures.found in
     rw (after, noted) (tables_next c.args.trace.now c.loop-at.at c.event.result.now c.loop-at.table c.loop-at.found
     c.len.ensures.is_trace c.event.ensures.event c.loop-at.invariant)
 

@@ -37,9 +37,10 @@ verdict_on-requires g c =
     let old = c.in_ok-replay.replay in
     let s : ShardState = c.in_ok-shard.shard in
     let replayed = subst (λ (d : DeclsState). legal.StandsFor d.declarations old []) c.decls.ensures.decls c.in_ok-replay.ensures.stands in
-    let stands = subst (λ (d : DeclsState). ShardStandsFor d.declarations 1 0 s []) c.decls-2.ensures.decls c.in_ok-shard.ensures in
-    (c.judge_each.new.replay,
-    judged_alone trace c.events.ensures.is_trace old s replayed stands c.judge_each.new.replay c.judge_each.new.shard None
-    (subst (λ illegal. Judges old (s ∷ []) trace.events illegal c.judge_each.new.replay (c.judge_each.new.shard ∷ [])) c.in-None.is
-    (subst (λ (es : List Event). Judges old (s ∷ []) es c.in_ok-illegal.field-0 c.judge_each.new.replay (c.judge_each.new.shard ∷ []))
-    c.events.ensures.events c.in_ok-illegal.ensures)))
+    let stands = subst (λ (d : DeclsState). ShardStandsFor d.declarations 1 0 s []) c.decls-2.ensures.decls c.in_ok-shard.ensures in (
+      c.judge_each.new.replay,
+      judged_alone trace c.events.ensures.is_trace old s replayed stands c.judge_each.new.replay c.judge_each.new.shard None
+          (subst (λ illegal. Judges old (s ∷ []) trace.events illegal c.judge_each.new.replay (c.judge_each.new.shard ∷ [])) c.in-None.is
+          (subst (λ (es : List Event). Judges old (s ∷ []) es c.in_ok-illegal.field-0 c.judge_each.new.replay (c.judge_each.new.shard ∷ []))
+          c.events.ensures.events c.in_ok-illegal.ensures)),
+    )

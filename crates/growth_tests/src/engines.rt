@@ -232,16 +232,16 @@ impl Growing for Row {
 
 // The judge by one shard takes eight lists: four of the replay, for goroutines and variables, the list of shards, one for
 // the shard's clocks, one for what is kept of its variables, and the races, which a verdict takes once more. A second shard
-// takes two of its own. What is kept of a line that comes in pieces grows twice. The log of each of a run's two goroutines
-// takes three. A judged run takes what the run takes, and then what its judge does. Workers take a copy of the declarations
-// besides. A witness takes four lists more for another replay, one for the clocks of each of three walks, and one for its
-// order. A drawing takes what the judge by one shard takes, six lists for its edges, one for the clocks of a walk, and one of
-// layouts; a layout takes what is noted for its way, the way, its arrows, and its rows, which ask again for less; and its text
-// is made in two.
+// takes two of its own. What is kept of a line that comes in pieces grows twice, and there are two lists of events then. The
+// log of each of a run's two goroutines takes three. A judged run takes what the run takes, and then what its judge does.
+// Workers take a copy of the declarations besides. A witness takes four lists more for another replay, one for the clocks of
+// each of three walks, and one for its order. A drawing takes what the judge by one shard takes, six lists for its edges, one
+// for the clocks of a walk, and one of layouts; a layout takes what is noted for its way, the way, its arrows, and its rows,
+// which ask again for less; and its text is made in two.
 static ENGINES: [(Row, u64); 14] = [
     (Row(Engine::Check(Judging::Shards(1)), CHECKED), 23),
     (Row(Engine::Check(Judging::Shards(2)), CHECKED), 25),
-    (Row(Engine::CheckPieces(TRACE, 1), CHECKED), 25),
+    (Row(Engine::CheckPieces(TRACE, 1), CHECKED), 26),
     (Row(Engine::Check(Judging::Plain), CHECKED), 26),
     (Row(Engine::Edges, LISTED), 21),
     (Row(Engine::Run(None), RUN_BY_PICKS), 49),

@@ -20,12 +20,13 @@ enum Call {
 }
 
 // The fault where this growth is refused: the variable takes six, and a seventh for its short name that
-// it can do without, the place and the event six, and a line that isn't ended yet is kept.
+// it can do without, guesses one that the event can do without, the place and the event six, and a line that isn't ended yet
+// is kept.
 fn fault_of_growth(nth: u64) -> TextFault {
     TextFault {
         line: if nth <= 7 {
             2
-        } else if nth <= 13 {
+        } else if nth <= 14 {
             3
         } else {
             4

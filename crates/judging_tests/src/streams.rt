@@ -25,7 +25,8 @@ fn take(stream: &mut EventStream<Global>, line: &str, hands_on: bool) -> Result<
 {
     stream.take_line(line.as_bytes())?;
     if hands_on {
-        stream.hand_on();
+        let mut list = Vec::new(stream.reader.alloc);
+        stream.hand_over(&mut list);
     }
     Ok(())
 }

@@ -80,11 +80,13 @@ impl<A: Allocator + Copy> Grammar for Reader<A> {
 
     type Whole = Program<A>;
 
+    ghost at_start = { tt };
+
     ghost causes = { program_causes };
 
-    ghost stands_for = { StandsFor };
+    ghost stands_for = { λ _. StandsFor };
 
-    ghost is_text_of = { IsTextOf };
+    ghost is_text_of = { λ _. IsTextOf };
 
     fn take_line(&mut self, line: &[u8]) -> Result<(), TextCause> {
         self.take_line(line)

@@ -4,10 +4,11 @@ use Rattle.std.proofs.Common.{Some, None, Result, Ok, Err, IsErrAnd, MatchResult
 use Rattle.std.proofs.{Common.{append-nil, append_assoc}, lemmas.List.length-append}
 use Rattle.std.proofs.lemmas.List.Splits.{join_with_byte-slice_split, length-slice_split, slice_split-cons_yes}
 use Rattle.std.proofs.lemmas.{List.Splits.slice_split-cons_no, Grind.flat_map-append, Option.{none-some, same_Some}}
-use Rattle.std.specs.List.{flat_map, join_with_byte, onto_first}
+use Rattle.std.specs.{List.{flat_map, join_with_byte, onto_first}, Borrow.Bor}
 use Rattle.race_text.specs.{declared.{cause.{TextCause.TextCause, TextFault.TextFault}, fed.Fed.Fed}, Words.parts_of}
 use Rattle.race_text.specs.{Text.ended, Lines.{Causes, or_later, fault_after, first_fault, IsLineOf, IsNoneBefore}}
-use Rattle.race_text.specs.{Owed.{owed, HidesNone}, Grammar.{StandsForSome, ForEachLines, Takes}, Fed.ended_after}
+use Rattle.race_text.specs.{Owed.{owed, HidesNone}, Grammar.{StandsForSome, ForEachLines, Takes}}
+use Rattle.race_text.specs.Fed.{ended_after, TakesNext, TellsOfNext}
 use Rattle.race_text.specs.Fed.{ended_fault, IsTaken, IsUnended, IsTold, TellsOfLine, TakesSome, IsFed, TellsOfMemory}
 use Rattle.race_text.{specs.Fed.{TakesBytes, TellsOfBytes, LinesState, StandsFor, HidesNoneOf}, proofs.ParseLemmas.told}
 use Rattle.race_text.proofs.ParseLemmas.{or_later_from, fault_step, fault_end, fault_from, cut_joined}
@@ -260,6 +261,15 @@ module _ (causes : Causes) where
   pub still_taken : (whole left : List ℕ) (Stood Stands : List (List ℕ) → Type 0) → ForEachLines Stood Stands
       → TakesSome causes Stood whole left → TakesSome causes Stands whole left
   still_taken whole left Stood Stands stays t = record { lines = t.lines; stands = stays t.lines t.stands; taken = t.taken }
+
+  pub next_still : (Stood Still Stands : List (List ℕ) → Type 0) → ForEachLines Stood Still → (bytes : List ℕ) (rest : Option (Bor (List ℕ)))
+      → TakesNext causes Still bytes rest Stands → TakesNext causes Stood bytes rest Stands
+  next_still Stood Still Stands still bytes (Some rest) next = (next.0, λ lines S. next.1 lines (still lines S))
+  next_still Stood Still Stands still bytes None next = (next.0, λ lines S. next.1 lines (still lines S))
+
+  pub tells_still : (Stood Still : List (List ℕ) → Type 0) → ForEachLines Stood Still → (bytes : List ℕ) (told : TextFault)
+      → TellsOfNext causes Still bytes told → TellsOfNext causes Stood bytes told
+  tells_still Stood Still still bytes told tells = record { rest = tells.rest; ends = tells.ends; is = λ lines S. tells.is lines (still lines S) }
 
   -- where nothing follows the bytes
   pub takes_all : (Stood Stands : List (List ℕ) → Type 0) (bytes part whole : List ℕ) → TakesBytes causes Stood bytes Stands part

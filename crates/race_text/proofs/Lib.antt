@@ -36,6 +36,7 @@ pub mod ParseLemmas
 pub mod FedLemmas
 pub mod LineCount
 pub mod StreamLemmas
+mod StreamKnown
 pub mod MarkLemmas
 pub mod CommonLemmas
 pub mod TextLaws

@@ -1,7 +1,7 @@
 -- What a stream of events has read: the lines of a trace of which the first events were handed on.
-use Rattle.std.specs.{Prelude.{◌≡◌, ℕ, Bool, IsTrue, List, [], ◌++◌, length, None}, List.flat_map}
+use Rattle.std.specs.{Prelude.{◌≡◌, ℕ, Bool, IsTrue, List, [], ◌++◌, length, Option, None, IfSome}, List.flat_map}
 use Rattle.std.specs.Option.{option_map, is_some}
-use Rattle.race_records.specs.{declared.event.Event.Event, Declarations.DeclsState, Events.TraceState}
+use Rattle.race_records.specs.{declared.event.Event.Event, Declarations.{Declaration, DeclsState}, Events.TraceState}
 use Rattle.race_text.specs.{declared.stream.EventStream.EventStream, Text.{IsTextOf, ended}, Fault.trace_causes}
 use Rattle.race_text.specs.{Taking.behind, Reader.{IsReading, lines_read, trace_read}}
 
@@ -44,3 +44,23 @@ module _ {A : Type 0} where
   abbrev pub IsTextAtEnd : EventStream A → List ℕ → Type 0
   IsTextAtEnd s last = (past : List Event) (lines : List (List ℕ)) → StandsWith s past lines
       → trace_causes.end lines last ≡ None → IsTextOf (trace_with past s) (flat_map ended lines ++ last)
+
+-- what is known of a stream besides its lines: the events that were handed on, and the declarations once an event stands there
+pub record Known : Type 0 where
+  pub past : List Event
+  pub declared : Option (List Declaration)
+
+-- there is an event, and this was declared before it
+abbrev pub HasDeclared : {A : Type 0} → EventStream A → List Declaration → Type 0
+HasDeclared s declared = IsTrue (has_events s) × ((decls_of s).declarations ≡ declared)
+
+-- the stream took these lines, and this is known of it
+pub record StandsFor {A : Type 0} (k : Known) (s : EventStream A) (lines : List (List ℕ)) : Type 0 where
+  pub stream : StandsWith s k.past lines
+  pub declared : IfSome k.declared (HasDeclared s)
+
+-- the bytes are the text of the trace with the events that were handed on
+pub record IsTextOfStream {A : Type 0} (k : Known) (s : EventStream A) (bytes : List ℕ) : Type 0 where
+  pub lines : List (List ℕ)
+  pub stands : StandsFor k s lines
+  pub text : IsTextOf (trace_with k.past s) bytes

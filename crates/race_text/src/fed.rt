@@ -31,9 +31,9 @@ pub struct Fed<G, A: Allocator> {
 impl<G: Grammar, A: Allocator + Copy> Fed<G, A> {
     /// Nothing is fed yet. Takes no memory.
     pub fn new(alloc: A, grammar: G) -> Fed<G, A>
-        requires { G.stands_for grammar [] }
-        ensures stands { spec.IsFed G.causes G.stands_for result [] }
-        ensures ready { spec.IsReady G.stands_for result }
+        requires { G.stands_for G.at_start grammar [] }
+        ensures stands { spec.IsFed G.causes (G.stands_for G.at_start) result [] }
+        ensures ready { spec.IsReady (G.stands_for G.at_start) result }
         ensures reader { result.lines.reader ≡ grammar }
         ensures none { result.lines.part.items ≡ [] }
         ensures fine { result.fault ≡ None }
@@ -53,16 +53,16 @@ impl<G: Grammar, A: Allocator + Copy> Fed<G, A> {
     /// own line where that line came in one piece. After a refusal each further call refuses in the
     /// same way.
     pub fn feed(&mut self, piece: &[u8]) -> Result<(), TextFault>
-        requires { spec.IsReady G.stands_for self.old }
-        ensures ready { spec.IsReady G.stands_for self.new }
-        ensures goes_on { spec.ForEachFedTo G.causes G.stands_for self.old
-            (λ fed. spec.IsFed G.causes G.stands_for self.new (fed ++ piece.now)) }
-        ensures ok { IfOk result (λ _. spec.ForEachFedTo G.causes G.stands_for self.old
+        requires { (k : G.Known) × spec.IsReady (G.stands_for k) self.old }
+        ensures ready { (k : G.Known) → spec.IsReady (G.stands_for k) self.old → spec.IsReady (G.stands_for k) self.new }
+        ensures goes_on { (k : G.Known) → spec.ForEachFedTo G.causes (G.stands_for k) self.old
+            (λ fed. spec.IsFed G.causes (G.stands_for k) self.new (fed ++ piece.now)) }
+        ensures ok { IfOk result (λ _. (k : G.Known) → spec.ForEachFedTo G.causes (G.stands_for k) self.old
             (λ fed. spec.ended_fault G.causes (fed ++ piece.now) ≡ None)) }
-        ensures err { IfErr result (λ told. spec.ForEachFedTo G.causes G.stands_for self.old
+        ensures err { IfErr result (λ told. (k : G.Known) → spec.ForEachFedTo G.causes (G.stands_for k) self.old
             (λ fed. spec.IsTold G.causes (fed ++ piece.now) told)) }
         ensures owed { IfErr result (λ told. self.old.fault ≡ None → self.old.lines.part.items ≡ []
-            → spec.ForEachFedTo G.causes G.stands_for self.old
+            → (k : G.Known) → spec.ForEachFedTo G.causes (G.stands_for k) self.old
             (λ fed. HidesNone told (spec.ended_fault G.causes (fed ++ piece.now)))) }
         ensures fine { IfOk result (λ _. self.new.fault ≡ None) }
         ensures told { IfErr result (λ told. self.new.fault ≡ Some told) }
@@ -82,13 +82,13 @@ impl<G: Grammar, A: Allocator + Copy> Fed<G, A> {
 
     /// What was fed as a whole, or its first fault.
     pub fn finish(self) -> Result<G::Whole, TextFault>
-        requires { spec.IsReady G.stands_for self }
-        ensures text { IfOk result (λ whole. spec.ForEachFedTo G.causes G.stands_for self (G.is_text_of whole)) }
-        ensures fault { IfErr result (λ told. spec.ForEachFedTo G.causes G.stands_for self
+        requires { (k : G.Known) × spec.IsReady (G.stands_for k) self }
+        ensures text { IfOk result (λ whole. (k : G.Known) → spec.ForEachFedTo G.causes (G.stands_for k) self (G.is_text_of k whole)) }
+        ensures fault { IfErr result (λ told. (k : G.Known) → spec.ForEachFedTo G.causes (G.stands_for k) self
             (λ fed. told.cause ≢ TextCause.OutOfMemory → first_fault G.causes fed ≡ Some told)) }
-        ensures memory { IfErr result (λ told. spec.ForEachFedTo G.causes G.stands_for self
+        ensures memory { IfErr result (λ told. (k : G.Known) → spec.ForEachFedTo G.causes (G.stands_for k) self
             (λ fed. IsNoneBefore told.line (first_fault G.causes fed))) }
-        ensures line { IfErr result (λ told. spec.ForEachFedTo G.causes G.stands_for self
+        ensures line { IfErr result (λ told. (k : G.Known) → spec.ForEachFedTo G.causes (G.stands_for k) self
             (λ fed. IsLineOf fed told.line)) }
         ensures repeated { (told : TextFault) → self.fault ≡ Some told → result ≡ Err told }
     {
@@ -110,14 +110,15 @@ impl<G: Grammar, A: Allocator + Copy> Fed<G, A> {
 impl<G: Grammar, A: Allocator + Copy> Lines<G, A> {
     // Takes the lines that the piece ends, and keeps what is behind them.
     fn take(&mut self, piece: &[u8]) -> Result<(), TextFault>
-        requires { spec.IsBetween (G.stands_for self.old.reader) self.old.part.items }
+        requires { (k : G.Known) × spec.IsBetween (G.stands_for k self.old.reader) self.old.part.items }
         ensures taken { MatchResult result
-            (λ _. spec.TakesBytes G.causes (G.stands_for self.old.reader) (self.old.part.items ++ piece.now)
-            (G.stands_for self.new.reader) self.new.part.items)
-            (λ told. spec.TellsOfBytes G.causes (G.stands_for self.old.reader) (self.old.part.items ++ piece.now) told) }
+            (λ _. (k : G.Known) → spec.TakesBytes G.causes (G.stands_for k self.old.reader) (self.old.part.items ++ piece.now)
+            (G.stands_for k self.new.reader) self.new.part.items)
+            (λ told. (k : G.Known) → spec.TellsOfBytes G.causes (G.stands_for k self.old.reader) (self.old.part.items ++ piece.now) told) }
         ensures owed { IfErr result (λ told. self.old.part.items ≡ []
-            → spec.HidesNoneOf G.causes (G.stands_for self.old.reader) piece.now told) }
-        ensures between { OnOk result (spec.IsBetween (G.stands_for self.new.reader) self.new.part.items) }
+            → (k : G.Known) → spec.HidesNoneOf G.causes (G.stands_for k self.old.reader) piece.now told) }
+        ensures some { OnOk result ((k : G.Known) → StandsForSome (G.stands_for k self.old.reader) → StandsForSome (G.stands_for k self.new.reader)) }
+        ensures unended { OnOk result (spec.IsUnended self.new.part.items) }
     {
         if self.is_between_lines() {
             return self.take_whole(piece);
@@ -142,14 +143,15 @@ impl<G: Grammar, A: Allocator + Copy> Lines<G, A> {
 
     // The same where no part of a line is left before. The lines are read where they lie.
     fn take_whole(&mut self, bytes: &[u8]) -> Result<(), TextFault>
-        requires some { StandsForSome (G.stands_for self.old.reader) }
+        requires some { (k : G.Known) × StandsForSome (G.stands_for k self.old.reader) }
         requires none { self.old.part.items ≡ [] }
         ensures taken { MatchResult result
-            (λ _. spec.TakesBytes G.causes (G.stands_for self.old.reader) bytes.now
-            (G.stands_for self.new.reader) self.new.part.items)
-            (λ told. spec.TellsOfBytes G.causes (G.stands_for self.old.reader) bytes.now told) }
-        ensures owed { IfErr result (spec.HidesNoneOf G.causes (G.stands_for self.old.reader) bytes.now) }
-        ensures between { OnOk result (spec.IsBetween (G.stands_for self.new.reader) self.new.part.items) }
+            (λ _. (k : G.Known) → spec.TakesBytes G.causes (G.stands_for k self.old.reader) bytes.now
+            (G.stands_for k self.new.reader) self.new.part.items)
+            (λ told. (k : G.Known) → spec.TellsOfBytes G.causes (G.stands_for k self.old.reader) bytes.now told) }
+        ensures owed { IfErr result (λ told. (k : G.Known) → spec.HidesNoneOf G.causes (G.stands_for k self.old.reader) bytes.now told) }
+        ensures some { OnOk result ((k : G.Known) → StandsForSome (G.stands_for k self.old.reader) → StandsForSome (G.stands_for k self.new.reader)) }
+        ensures unended { OnOk result (spec.IsUnended self.new.part.items) }
     {
         let mut left = bytes;
         loop {
@@ -165,10 +167,10 @@ impl<G: Grammar, A: Allocator + Copy> Lines<G, A> {
 
     // Takes the line that came in pieces.
     fn take_part(&mut self) -> Result<(), TextFault>
-        requires { StandsForSome (G.stands_for self.old.reader) }
+        requires { (k : G.Known) × StandsForSome (G.stands_for k self.old.reader) }
         ensures taken { MatchResult result
-            (λ _. Takes G.causes (G.stands_for self.old.reader) self.old.part.items (G.stands_for self.new.reader))
-            (λ told. ForEachLines (G.stands_for self.old.reader) (spec.TellsOfLine G.causes self.old.part.items told)) }
+            (λ _. (k : G.Known) → Takes G.causes (G.stands_for k self.old.reader) self.old.part.items (G.stands_for k self.new.reader))
+            (λ told. (k : G.Known) → ForEachLines (G.stands_for k self.old.reader) (spec.TellsOfLine G.causes self.old.part.items told)) }
         ensures none { OnOk result (self.new.part.items ≡ []) }
     {
         take_line(&mut self.reader, self.part.as_slice())?;
@@ -178,9 +180,9 @@ impl<G: Grammar, A: Allocator + Copy> Lines<G, A> {
 
     // Keeps more bytes of a line that no newline has ended yet.
     fn keep(&mut self, bytes: &[u8]) -> Result<(), TextFault>
-        requires { StandsForSome (G.stands_for self.old.reader) }
+        requires { (k : G.Known) × StandsForSome (G.stands_for k self.old.reader) }
         ensures kept { OnOk result (self.new.part.items ≡ self.old.part.items ++ bytes.now) }
-        ensures told { IfErr result (λ told. ForEachLines (G.stands_for self.old.reader) (spec.TellsOfMemory told)) }
+        ensures told { IfErr result (λ told. (k : G.Known) → ForEachLines (G.stands_for k self.old.reader) (spec.TellsOfMemory told)) }
         ensures same { self.new.reader ≡ self.old.reader }
     {
         match self.part.extend_from_slice(bytes) {
@@ -196,10 +198,10 @@ impl<G: Grammar, A: Allocator + Copy> Lines<G, A> {
 // Takes the line in front of the bytes, and tells what is behind it; nothing where no newline ends it.
 #[inline(always)]
 fn take_next<'a, G: Grammar>(reader: &mut G, bytes: &'a [u8]) -> Result<Option<&'a [u8]>, TextFault>
-    requires { StandsForSome (G.stands_for reader.old) }
+    requires { (k : G.Known) × StandsForSome (G.stands_for k reader.old) }
     ensures { MatchResult result
-        (λ rest. spec.TakesNext G.causes (G.stands_for reader.old) bytes.now rest (G.stands_for reader.new))
-        (λ told. spec.TellsOfNext G.causes (G.stands_for reader.old) bytes.now told) }
+        (λ rest. (k : G.Known) → spec.TakesNext G.causes (G.stands_for k reader.old) bytes.now rest (G.stands_for k reader.new))
+        (λ told. (k : G.Known) → spec.TellsOfNext G.causes (G.stands_for k reader.old) bytes.now told) }
 {
     let number = reader.line();
     match reader.take_common(bytes) {
@@ -220,10 +222,10 @@ fn take_other<'a, G: Grammar>(
     reader: &mut G,
     bytes: &'a [u8],
 ) -> Result<Option<&'a [u8]>, TextFault>
-    requires { StandsForSome (G.stands_for reader.old) }
+    requires { (k : G.Known) × StandsForSome (G.stands_for k reader.old) }
     ensures { MatchResult result
-        (λ rest. spec.TakesNext G.causes (G.stands_for reader.old) bytes.now rest (G.stands_for reader.new))
-        (λ told. spec.TellsOfNext G.causes (G.stands_for reader.old) bytes.now told) }
+        (λ rest. (k : G.Known) → spec.TakesNext G.causes (G.stands_for k reader.old) bytes.now rest (G.stands_for k reader.new))
+        (λ told. (k : G.Known) → spec.TellsOfNext G.causes (G.stands_for k reader.old) bytes.now told) }
 {
     let (line, rest) = cut_at(bytes, b'\n');
     match rest {
@@ -238,10 +240,10 @@ fn take_other<'a, G: Grammar>(
 // Takes a line, or tells its least cause with its number.
 #[inline(always)]
 fn take_line<G: Grammar>(reader: &mut G, line: &[u8]) -> Result<(), TextFault>
-    requires { StandsForSome (G.stands_for reader.old) }
+    requires { (k : G.Known) × StandsForSome (G.stands_for k reader.old) }
     ensures { MatchResult result
-        (λ _. Takes G.causes (G.stands_for reader.old) line.now (G.stands_for reader.new))
-        (λ told. ForEachLines (G.stands_for reader.old) (spec.TellsOfLine G.causes line.now told)) }
+        (λ _. (k : G.Known) → Takes G.causes (G.stands_for k reader.old) line.now (G.stands_for k reader.new))
+        (λ told. (k : G.Known) → ForEachLines (G.stands_for k reader.old) (spec.TellsOfLine G.causes line.now told)) }
 {
     let number = reader.line();
     match reader.take_line(line) {

@@ -14,41 +14,47 @@ pub trait Grammar: Drop {
     /// What a whole text is read as.
     type Whole: Drop;
 
+    // What else is known of it while it takes lines, which no line changes. What follows holds for each such value.
+    ghost Known: { Type 0 } = { Unit {0} };
+
+    // What is known where no line was taken.
+    ghost at_start: { Known };
+
     // The causes of such a text.
     ghost causes: { Causes };
 
     // The lines that it took.
-    ghost stands_for: { Self → List (List ℕ) → Type 0 };
+    ghost stands_for: { Known → Self → List (List ℕ) → Type 0 };
 
-    ghost is_text_of: { Self.Whole → List ℕ → Type 0 };
+    ghost is_text_of: { Known → Self.Whole → List ℕ → Type 0 };
 
     /// Takes the next line, or tells its least cause: want of memory only where the line has none.
     fn take_line(&mut self, line: &[u8]) -> Result<(), TextCause>
-        requires { spec.StandsForSome (stands_for self.old) }
+        requires { (k : Known) × spec.StandsForSome (stands_for k self.old) }
         ensures { MatchResult result
-            (λ _. spec.Takes causes (stands_for self.old) line.now (stands_for self.new))
-            (λ told. spec.Tells causes (stands_for self.old) line.now told) };
+            (λ _. (k : Known) → spec.Takes causes (stands_for k self.old) line.now (stands_for k self.new))
+            (λ told. (k : Known) → spec.Tells causes (stands_for k self.old) line.now told) };
 
     /// The number of the line that comes next, counted from 1.
     fn line(&self) -> u64
-        requires { spec.StandsForSome (stands_for self.now) }
-        ensures { spec.ForEachLines (stands_for self.now) (λ lines. result ≡ length lines + 1) };
+        requires { (k : Known) × spec.StandsForSome (stands_for k self.now) }
+        ensures { (k : Known) → spec.ForEachLines (stands_for k self.now) (λ lines. result ≡ length lines + 1) };
 
     /// What was read as a whole, where this stands behind the last newline, or the cause of the end.
     fn whole(self, last: &[u8]) -> Result<Self::Whole, TextCause>
-        requires { spec.StandsForSome (stands_for self) }
+        requires { (k : Known) × spec.StandsForSome (stands_for k self) }
         ensures { MatchResult result
-            (λ whole. spec.ForEachLines (stands_for self) (spec.IsWhole causes is_text_of last.now whole))
-            (λ told. spec.TellsOfEnd causes (stands_for self) last.now told) };
+            (λ whole. (k : Known) → spec.ForEachLines (stands_for k self) (spec.IsWhole causes (is_text_of k) last.now whole))
+            (λ told. (k : Known) → spec.TellsOfEnd causes (stands_for k self) last.now told) };
 
     /// Takes the line in front of the bytes, where it has a faster way for it, and tells what is behind
     /// it. Tells nothing, and takes nothing, where it has none.
     #[inline(always)]
     fn take_common<'b>(&mut self, bytes: &'b [u8]) -> Result<Option<&'b [u8]>, TextCause>
-        requires { spec.StandsForSome (stands_for self.old) }
+        requires { (k : Known) × spec.StandsForSome (stands_for k self.old) }
         ensures { MatchResult result
-            (λ rest. spec.TakesIfTold causes (stands_for self.old) bytes.now rest (stands_for self.new))
-            (λ told. spec.TellsOfFront causes (stands_for self.old) bytes.now told) }
+            (λ rest. (k : Known) → spec.TakesIfTold causes (stands_for k self.old) bytes.now rest (stands_for k self.new))
+            (λ told. (k : Known) → spec.TellsOfFront causes (stands_for k self.old) bytes.now told) }
     {
         Ok(None)
     }

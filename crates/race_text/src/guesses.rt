@@ -1,6 +1,6 @@
 //! Where the places of events stand in the table, guessed by some of their bytes. A guess is compared
 //! with the table, so it may be wrong, and a place that isn't guessed is looked for there.
-ghost use Rattle.std.specs.Prelude.{◌≡◌, ◌<◌, ◌≤◌, length, Some, IfSome, slice_get};
+ghost use Rattle.std.specs.Prelude.{◌≡◌, ◌≤◌, length, Some, IfSome, slice_get};
 
 use race_records::Decls;
 use std::alloc::Allocator;
@@ -16,29 +16,35 @@ pub struct Guess {
 }
 
 /// Numbers of places that were met. A slot in which none was noted guesses the first place.
+///
+/// There are no slots before the first event, nor where memory was refused for them: then nothing is guessed.
 #[derive(Drop)]
-pub struct Guesses {
-    slots: [Guess; SLOTS],
+pub struct Guesses<A: Allocator> {
+    slots: Vec<Guess, A>,
 }
 
-impl Guesses {
-    pub(crate) fn new() -> Guesses {
+impl<A: Allocator + Copy> Guesses<A> {
+    // Nothing is guessed yet. Takes no memory.
+    pub(crate) fn new(alloc: A) -> Guesses<A> {
         Guesses {
-            slots: [Guess { mark: 0, place: 0 }; SLOTS],
+            slots: Vec::new(alloc),
+        }
+    }
+
+    // Makes the slots, unless memory is refused.
+    pub(crate) fn make_room(&mut self) {
+        let blank = Guess { mark: 0, place: 0 };
+        if let Ok(slots) = Vec::from_elem(*self.slots.allocator(), blank, SLOTS) {
+            self.slots = slots;
         }
     }
 
     // The number of the place with this mark, where it was guessed.
     #[inline(always)]
-    pub(crate) fn number<A: Allocator>(
-        &self,
-        decls: &Decls<A>,
-        place: &str,
-        mark: u32,
-    ) -> Option<u32>
+    pub(crate) fn number(&self, decls: &Decls<A>, place: &str, mark: u32) -> Option<u32>
         ensures { IfSome result (λ n. slice_get decls.now.places n ≡ Some place.now) }
     {
-        let guess = self.slots[slot_of(mark)];
+        let guess = self.slots.as_slice().get(slot_of(mark))?;
         if guess.mark == mark
             && guess.place < decls.place_count()
             && decls.place_text(guess.place) == place
@@ -52,15 +58,15 @@ impl Guesses {
     // The place with this mark has this number.
     #[inline(always)]
     pub(crate) fn note(&mut self, mark: u32, place: u32) {
-        self.slots[slot_of(mark)] = Guess { mark, place };
+        if let Some(slot) = self.slots.as_mut_slice().get_mut(slot_of(mark)) {
+            *slot = Guess { mark, place };
+        }
     }
 }
 
 // The slot of a mark is told by its highest bits, in which every byte has a part.
 #[inline(always)]
-fn slot_of(mark: u32) -> usize
-    ensures { result < 4_096 }
-{
+fn slot_of(mark: u32) -> usize {
     (mark >> 20) as usize
 }
 

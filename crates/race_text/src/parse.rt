@@ -37,8 +37,8 @@ pub fn parse_by<G: Grammar, A: Allocator + Copy>(
     grammar: G,
     bytes: &[u8],
 ) -> Result<G::Whole, TextFault>
-    requires { G.stands_for grammar [] }
-    ensures text { IfOk result (λ whole. G.is_text_of whole bytes.now) }
+    requires { G.stands_for G.at_start grammar [] }
+    ensures text { IfOk result (λ whole. G.is_text_of G.at_start whole bytes.now) }
     ensures fault { IfErr result
         (λ told. told.cause ≢ TextCause.OutOfMemory → first_fault G.causes bytes.now ≡ Some told) }
     ensures memory { IfErr result (λ told. IsNoneBefore told.line (first_fault G.causes bytes.now)) }

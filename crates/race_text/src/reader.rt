@@ -27,7 +27,7 @@ pub struct Reader<A: Allocator> {
     /// The trace, from the first event on.
     pub trace: Option<Trace<A>>,
     /// Where the places of events likely stand.
-    pub guesses: Guesses,
+    pub guesses: Guesses<A>,
 }
 
 impl<A: Allocator> Drop for Reader<A> {
@@ -47,11 +47,13 @@ impl<A: Allocator + Copy> Grammar for Reader<A> {
 
     type Whole = Trace<A>;
 
+    ghost at_start = { tt };
+
     ghost causes = { trace_causes };
 
-    ghost stands_for = { StandsFor };
+    ghost stands_for = { λ _. StandsFor };
 
-    ghost is_text_of = { IsTextOf };
+    ghost is_text_of = { λ _. IsTextOf };
 
     #[inline(always)]
     fn take_line(&mut self, line: &[u8]) -> Result<(), TextCause> {
@@ -87,7 +89,7 @@ impl<A: Allocator + Copy> Reader<A> {
             has_header: false,
             decls: Decls::new(alloc),
             trace: None,
-            guesses: Guesses::new(),
+            guesses: Guesses::new(alloc),
         }
     }
 
@@ -229,6 +231,7 @@ impl<A: Allocator + Copy> Reader<A> {
                     return Ok(());
                 }
                 let mut trace = Trace::new(mem::replace(&mut self.decls, Decls::new(self.alloc)));
+                self.guesses.make_room();
                 match take_event(&mut trace, &mut self.guesses, line) {
                     Err(cause) => Err(cause),
                     Ok(()) => {

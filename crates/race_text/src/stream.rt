@@ -5,6 +5,7 @@ ghost use Rattle.race_text.specs.{Fault.trace_causes, Grammar.{ForEachLines, Tak
 ghost use Rattle.race_text.specs.Stream as spec;
 
 use crate::cause::TextCause;
+use crate::grammar::Grammar;
 use crate::reader::Reader;
 use crate::taking::{take_common_behind, take_event_behind};
 use race_records::{Decls, Event};
@@ -21,6 +22,46 @@ pub struct EventStream<A: Allocator> {
     pub reader: Reader<A>,
     /// How many were.
     pub before: usize,
+}
+
+impl<A: Allocator + Copy> Grammar for EventStream<A> {
+    ghost use Rattle.std.specs.Prelude.{[], None};
+    ghost use Rattle.race_text.specs.{Fault.trace_causes, Stream.{Known, StandsFor, IsTextOfStream}};
+
+    type Whole = EventStream<A>;
+
+    // The events that were handed on, and what is declared once there is an event.
+    ghost Known = { Known };
+
+    ghost at_start = { record { past = []; declared = None } };
+
+    ghost causes = { trace_causes };
+
+    ghost stands_for = { StandsFor };
+
+    ghost is_text_of = { IsTextOfStream };
+
+    #[inline(always)]
+    fn take_line(&mut self, line: &[u8]) -> Result<(), TextCause> {
+        self.take_line(line)
+    }
+
+    #[inline(always)]
+    fn line(&self) -> u64 {
+        self.line()
+    }
+
+    fn whole(self, last: &[u8]) -> Result<EventStream<A>, TextCause> {
+        match self.end_cause(last) {
+            Some(cause) => Err(cause),
+            None => Ok(self),
+        }
+    }
+
+    #[inline(always)]
+    fn take_common<'b>(&mut self, bytes: &'b [u8]) -> Result<Option<&'b [u8]>, TextCause> {
+        self.take_common(bytes)
+    }
 }
 
 impl<A: Allocator + Copy> EventStream<A> {
@@ -52,10 +93,9 @@ impl<A: Allocator + Copy> EventStream<A> {
     }
 
     /// Takes the line in front of the bytes where it is a common one, and tells what is behind it. Tells
-    /// nothing, and takes nothing, where it is another. `G` is the grammar that asks, so that each has a copy of its
-    /// own, which can be inlined.
+    /// nothing, and takes nothing, where it is another.
     #[inline(always)]
-    pub fn take_common<'b, G>(&mut self, bytes: &'b [u8]) -> Result<Option<&'b [u8]>, TextCause>
+    pub fn take_common<'b>(&mut self, bytes: &'b [u8]) -> Result<Option<&'b [u8]>, TextCause>
         requires { spec.StandsForSome self.old }
         ensures taken { MatchResult result
             (λ rest. (past : List Event) → TakesIfTold trace_causes (spec.StandsWith self.old past) bytes.now rest (spec.StandsWith self.new past))
@@ -65,7 +105,12 @@ impl<A: Allocator + Copy> EventStream<A> {
         match &mut self.reader.trace {
             None => Ok(None),
             Some(trace) => {
-                take_common_behind::<G, A>(trace, self.before, &mut self.reader.guesses, bytes)
+                take_common_behind::<EventStream<A>, A>(
+                    trace,
+                    self.before,
+                    &mut self.reader.guesses,
+                    bytes,
+                )
             }
         }
     }
@@ -114,20 +159,6 @@ impl<A: Allocator + Copy> EventStream<A> {
         match &self.reader.trace {
             None => &[],
             Some(trace) => trace.events(),
-        }
-    }
-
-    /// Forgets the events, which were handed on, and keeps their room.
-    pub fn hand_on(&mut self)
-        requires { spec.StandsForSome self.old }
-        ensures stands { (past : List Event) → ForEachLines (spec.StandsWith self.old past)
-            (spec.StandsWith self.new (past ++ spec.events_of self.old)) }
-        ensures none { spec.events_of self.new ≡ [] }
-        ensures declared { spec.DeclaresNothing self.old self.new }
-    {
-        if let Some(trace) = &mut self.reader.trace {
-            self.before += trace.len();
-            trace.clear_events();
         }
     }
 

@@ -19,7 +19,7 @@ use std::alloc::Allocator;
 // Takes a line behind the declarations: an event that fits, or the least cause of what isn't one.
 pub(crate) fn take_event<A: Allocator + Copy>(
     trace: &mut Trace<A>,
-    guesses: &mut Guesses,
+    guesses: &mut Guesses<A>,
     line: &[u8],
 ) -> Result<(), TextCause>
     requires read { spec.IsRead trace.old }
@@ -35,7 +35,7 @@ pub(crate) fn take_event<A: Allocator + Copy>(
 pub(crate) fn take_event_behind<A: Allocator + Copy>(
     trace: &mut Trace<A>,
     before: usize,
-    guesses: &mut Guesses,
+    guesses: &mut Guesses<A>,
     line: &[u8],
 ) -> Result<(), TextCause>
     requires read { spec.IsReadBehind before trace.old }
@@ -57,7 +57,7 @@ pub(crate) fn take_event_behind<A: Allocator + Copy>(
 #[inline(always)]
 pub(crate) fn take_common<'a, A: Allocator + Copy>(
     trace: &mut Trace<A>,
-    guesses: &mut Guesses,
+    guesses: &mut Guesses<A>,
     bytes: &'a [u8],
 ) -> Result<Option<&'a [u8]>, TextCause>
     requires read { spec.IsRead trace.old }
@@ -78,7 +78,7 @@ pub(crate) fn take_common<'a, A: Allocator + Copy>(
 pub(crate) fn take_common_behind<'a, G, A: Allocator + Copy>(
     trace: &mut Trace<A>,
     before: usize,
-    guesses: &mut Guesses,
+    guesses: &mut Guesses<A>,
     bytes: &'a [u8],
 ) -> Result<Option<&'a [u8]>, TextCause>
     requires read { spec.IsReadBehind before trace.old }
@@ -101,7 +101,7 @@ pub(crate) fn take_common_behind<'a, G, A: Allocator + Copy>(
 fn append_said<A: Allocator + Copy>(
     trace: &mut Trace<A>,
     before: usize,
-    guesses: &mut Guesses,
+    guesses: &mut Guesses<A>,
     said: Said<'_>,
 ) -> Result<(), TextCause>
     requires fits { spec.IsFitting trace.old.decls (said_of said) }
@@ -176,7 +176,7 @@ fn append_op<A: Allocator + Copy>(
 fn append<A: Allocator + Copy>(
     trace: &mut Trace<A>,
     before: usize,
-    guesses: &mut Guesses,
+    guesses: &mut Guesses<A>,
     draft: Draft<'_>,
 ) -> Result<(), TextCause>
     requires fits { spec.IsFitting trace.old.decls (drafted draft) }
@@ -223,7 +223,7 @@ fn add_place<A: Allocator + Copy>(trace: &mut Trace<A>, place: &[u8]) -> Result<
 #[inline(always)]
 fn add_met<A: Allocator + Copy>(
     trace: &mut Trace<A>,
-    guesses: &mut Guesses,
+    guesses: &mut Guesses<A>,
     place: &[u8],
 ) -> Result<u32, TextCause>
     requires form { is_place place.now ≡ true }
@@ -247,7 +247,7 @@ fn add_met<A: Allocator + Copy>(
 // Adds the second place, where there is one.
 fn add_second<A: Allocator + Copy>(
     trace: &mut Trace<A>,
-    guesses: &mut Guesses,
+    guesses: &mut Guesses<A>,
     place2: Option<&[u8]>,
 ) -> Result<Option<u32>, TextCause>
     requires form { IfSome (option_map (λ place. place.now) place2) (λ place. is_place place ≡ true) }

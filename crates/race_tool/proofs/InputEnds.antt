@@ -8,7 +8,7 @@ use Rattle.race_tool.proofs.InputLemmas.{fed_more, fine_before, fault_read, end_
 use Rattle.race_tool.proofs.InputLemmas.{out_of_memory_alone}
 
 -- an error is no text
-no_text : {T E : Type 0} (r : Result T E) (e : E) → IsErrAnd r (λ f. f ≡ e) → (P : T → Type 0) → IfOk r P
+pub no_text : {T E : Type 0} (r : Result T E) (e : E) → IsErrAnd r (λ f. f ≡ e) → (P : T → Type 0) → IfOk r P
 no_text (Ok t) e is P = absurd is
 no_text (Err f) e is P = tt
 

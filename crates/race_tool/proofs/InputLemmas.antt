@@ -25,25 +25,24 @@ fed_none causes start StandsFor stands = record {
 }
 
 -- all was read, and the reader stands for it
-module _ (causes : Causes) (start now : Option (List ℕ)) (Stands : List ℕ → Type 0) (r : HasReadAll causes start now Stands) {V : Type 0} (IsText : V → List ℕ → Type 0) where
-  end_read : (text : Result V TextFault)
+module _ (causes : Causes) (start now : Option (List ℕ)) (Stands : List ℕ → Type 0) (r : HasReadAll causes start now Stands)
+    {V : Type 0} (IsText : V → List ℕ → Type 0) where
+  pub end_read : (text : Result V TextFault)
       → IfOk text (λ value. (bytes : List ℕ) → Stands bytes → IsText value bytes)
-      → IfErr text (λ told. (bytes : List ℕ) → Stands bytes → told.cause ≢ TextCause.OutOfMemory → first_fault causes bytes ≡ Some told)
-      → IfErr text (λ told. told.cause ≢ TextCause.OutOfMemory)
+      → IfErr text (λ told. (bytes : List ℕ) → Stands bytes → first_fault causes bytes ≡ Some told)
       → ReadsBy IsText causes start now text
-  end_read text read told other = record {
+  end_read text read told = record {
     bytes = r.read.bytes;
     to_end = true;
     read = record { consumed = r.read.consumed; stops = (r.at_end, r.read.fine) };
-    is_so = λ whole is. subst (λ (bytes : List ℕ). IsReadBy IsText causes bytes text) (sym is) (so text read told other);
+    is_so = λ whole is. subst (λ (bytes : List ℕ). IsReadBy IsText causes bytes text) (sym is) (so text read told);
     all = all text;
   }
     where
       so : (t : Result V TextFault) → IfOk t (λ value. (bytes : List ℕ) → Stands bytes → IsText value bytes)
-          → IfErr t (λ f. (bytes : List ℕ) → Stands bytes → f.cause ≢ TextCause.OutOfMemory → first_fault causes bytes ≡ Some f)
-          → IfErr t (λ f. f.cause ≢ TextCause.OutOfMemory) → IsReadBy IsText causes r.read.bytes t
-      so (Ok value) read told other = read r.read.bytes r.read.stands
-      so (Err f) read told other = told r.read.bytes r.read.stands other
+          → IfErr t (λ f. (bytes : List ℕ) → Stands bytes → first_fault causes bytes ≡ Some f) → IsReadBy IsText causes r.read.bytes t
+      so (Ok value) read told = read r.read.bytes r.read.stands
+      so (Err f) read told = told r.read.bytes r.read.stands
 
       all : (t : Result V TextFault) → OnOk t (IsTrue true)
       all (Ok value) = refl
@@ -58,7 +57,12 @@ module _ (causes : Causes) (start now : Option (List ℕ)) (Stands : List ℕ �
   all_answered told (Err e) read fault same other = tt
   all_answered told (Ok text) read fault same other =
       subst (λ (t : Result V TextFault). ReadsBy IsText causes start now t) (sym same)
-      (end_read told read fault (subst (λ (t : Result V TextFault). IfErr t (λ f. f.cause ≢ TextCause.OutOfMemory)) same other))
+      (end_read told read (faulty told fault (subst (λ (t : Result V TextFault). IfErr t (λ f. f.cause ≢ TextCause.OutOfMemory)) same other)))
+    where
+      faulty : (t : Result V TextFault) → IfErr t (λ f. (bytes : List ℕ) → Stands bytes → f.cause ≢ TextCause.OutOfMemory → first_fault causes bytes ≡ Some f)
+          → IfErr t (λ f. f.cause ≢ TextCause.OutOfMemory) → IfErr t (λ f. (bytes : List ℕ) → Stands bytes → first_fault causes bytes ≡ Some f)
+      faulty (Ok value) told other = tt
+      faulty (Err f) told other = λ bytes S. told bytes S other
 
 -- what was read, by another reader
 pub read_as : (causes : Causes) (start now : Option (List ℕ)) (Old New : List ℕ → Type 0) (turns : ℕ)

@@ -14,6 +14,5 @@ pub mod WitnessLemmas
 pub mod DrawLemmas
 pub mod StreamedLemmas
 pub mod StreamedAnswers
-pub mod StreamedReading
 pub mod IntakeLemmas
 pub mod IntakeTurns

@@ -9,10 +9,10 @@ use Rattle.race_report.proofs.PrintableLemmas.{notes_are_named}
 use Rattle.race_text.specs.{Fault.{trace_causes, text_fault}, Lines.first_fault, Output.Writes}
 use Rattle.race_text.specs.declared.{stream.EventStream.EventStream, cause.TextFault.TextFault}
 use Rattle.race_text.proofs.{FedLemmas.ended_fault_stays, TextFine.text_has_no_fault}
-use Rattle.race_tool.specs.{declared.{judged_stream.JudgedStream.JudgedStream, stream_found.Found.Found}, Engines.Never}
+use Rattle.race_tool.specs.{declared.{intake.JudgedStream.JudgedStream, stream_found.Found.Found}, Engines.Never}
 use Rattle.race_tool.specs.Finding.{Finding, Faulty, Judged, IsFinding, report_of, status_of}
 use Rattle.race_tool.specs.{Input.{Reads, IsReadBy, ReadsBy}, Outcome.{Answers, IsOfAFinding, IsRightFor}}
-use Rattle.race_tool.specs.Streams.{HandsOnSome, IsReadText, IsJudgedText, IsFoundOf, found_text, found_status}
+use Rattle.race_tool.specs.Streams.{IsReadText, IsJudgedText, IsFoundOf, found_text, found_status}
 use Rattle.race_tool.{specs.Streams.status_noted, proofs.{InputLemmas.itself, StatusLemmas.{small, large}}}
 use Rattle.race_tool.specs.declared.status.TheConstants as status
 
@@ -60,14 +60,6 @@ found_own {A} (Found.Judged stream verdict) = by verdict
     by (NotedVerdict.Illegal illegal) = small status.ILLEGAL (omega arith)
     by (NotedVerdict.Clean events accesses) = small status.CLEAN (omega arith)
     by (NotedVerdict.Races races) = large status.RACES (omega arith)
-
--- what was read has a judge for what was handed on
-pub some_read : {A : Type 0} (before after : Option (List ℕ)) (text : Result (JudgedStream A) TextFault) → ReadsBy IsReadText trace_causes before after text
-    → IfOk text (λ whole. HandsOnSome whole.stream whole.judge)
-some_read before after (Ok whole) r =
-    let read = r.is_so r.bytes (itself r.bytes r.to_end) in
-    record { past = read.past; lines = read.lines; hands_on = read.hands_on }
-some_read before after (Err fault) r = tt
 
 -- how a call ended that read, found and wrote
 module _ {A R W : Type 0} (remaining : R → Option (List ℕ)) (contents : W → Option (List ℕ)) (source source_now : Source R) (sink sink_now : Sink W)

@@ -1,23 +1,20 @@
 -- A trace that is judged while it is read: its lines, its judge, and what is found of it.
-use Rattle.std.proofs.Common.{◌≡◌, ℕ, ◌+◌, ◌<◌, ◌≤◌, true, IsTrue, All, List, [], ◌∷◌, ◌++◌, length, Option, Some, None}
-use Rattle.std.proofs.Common.{Result, Ok, Err, OnOk, MatchResult, refl, sym, ap, ◌∙◌, subst, arith, append-nil}
-use Rattle.std.{proofs.Common.{length-append, slice_index_or}, specs.{Borrow.Bor, Option.{option_map, is_some}}}
+use Rattle.std.proofs.Common.{◌≡◌, ℕ, ◌+◌, ◌<◌, ◌≤◌, IsTrue, All, List, [], ◌++◌, length, Option, Some, None, IfSome}
+use Rattle.std.proofs.Common.{refl, sym, ap, ◌∙◌, subst, arith, append-nil, length-append, slice_index_or}
+use Rattle.std.specs.{Option.{option_map, is_some}}
 use Rattle.race_records.specs.declared.{event.Event.Event, kind.Kind.Kind, trace.TheConstants.MAX_EVENTS}
 use Rattle.race_records.specs.{Declarations.{Declaration, DeclsState, capacity_of}, Events.{TraceState, IsTrace}}
 use Rattle.race_model.specs.Verdict.{IsVerdict}
 use Rattle.race_legal.{specs.ReplayState.IsInRange, proofs.RangeLemmas.range_from_fits}
 use Rattle.race_verdict.specs.{declared.notes.NotedVerdict.NotedVerdict, Notes.{verdict_noted, IsNotedOf}}
 use Rattle.race_shards.specs.Judging.{JudgeState, CanTake, GoesOn, Tells, Notes}
-use Rattle.race_text.specs.{declared.{cause.TextCause.TextCause, stream.EventStream.EventStream}, Common.line_in}
-use Rattle.race_text.specs.{Fault.trace_causes, Grammar.{ForEachLines, Takes, TakesBehind, TakesIfTold, TellsOfFront}}
-use Rattle.race_text.specs.{Grammar.IsWhole, Reader.trace_read, Stream.{StandsWith, DeclaresNothing, IsTextAtEnd}}
-use Rattle.race_text.specs.{Stream.{trace_with, decls_of, events_of, has_events}, Taking.{behind, begun}}
+use Rattle.race_text.specs.{declared.stream.EventStream.EventStream, Grammar.ForEachLines, Reader.trace_read, Taking.behind}
+use Rattle.race_text.specs.Stream.{Known, StandsWith, DeclaresNothing, HasDeclared, trace_with, decls_of, events_of, has_events}
 use Rattle.race_text.proofs.StreamLemmas.{nothing_past, read_behind}
-use Rattle.race_tool.specs.Streams.{IsJudgeOf, IsHanded, HandsOnSome, StandsBehind, IsReadText, IsTextBehind}
-use Rattle.race_tool.specs.Streams.{IsNotedVerdict}
+use Rattle.race_tool.specs.declared.handed.Handed.{Handed}
+use Rattle.race_tool.specs.Streams.{IsJudgeOf, IsHanded, IsNotedVerdict, StandsBehind, known_behind}
 use Rattle.race_shards.specs.Judging as judging
 use Rattle.race_text.specs.Grammar as grammar
-use Rattle.race_text.specs.Stream as stream
 
 -- what was handed on changes no declaration
 pub decls_with : {A : Type 0} (s : EventStream A) (past : List Event) → (trace_with past s).decls ≡ decls_of s
@@ -76,126 +73,44 @@ module _ {A : Type 0} (s : EventStream A) (past : List Event) (lines : List (Lis
     notes = subst (λ (es : List Event). IsNotedOf es verdict) (sym events_with) (notes (decls_of s).declarations (past ++ events_of s) J);
   }
 
--- the judge before the events takes them
-pub takes_more : {A : Type 0} (s : EventStream A) (before : Option JudgeState) (k n : JudgeState)
-    → ((past : List Event) → IsJudgeOf (decls_of s) before past → judging.StandsFor (decls_of s).declarations k past) → GoesOn k (events_of s) n
-    → (past : List Event) → IsJudgeOf (decls_of s) before past → judging.StandsFor (decls_of s).declarations n (past ++ events_of s)
-takes_more s before k n started goes past judged = goes (decls_of s).declarations past (started past judged)
-
--- it can take them
-pub can_take_some : {A : Type 0} (s : EventStream A) (before : Option JudgeState) (k : JudgeState) → HandsOnSome s before
-    → ((past : List Event) → IsJudgeOf (decls_of s) before past → judging.StandsFor (decls_of s).declarations k past) → IsTrace (trace_with [] s)
-    → CanTake k (events_of s)
-can_take_some s before k some started holds =
-    can_take s some.past some.lines some.hands_on.stream k (started some.past some.hands_on.judged) holds
-
 -- where nothing is left the judge stands for all that was handed on
-pub none_left : (decls : DeclsState) (judge : Option JudgeState) (past : List Event) → IsHanded decls judge [] past → IsJudgeOf decls judge past
-none_left decls judge past h = subst (λ (es : List Event). IsJudgeOf decls judge es) (sym (h.past_is ∙ append-nil h.front)) h.judged
+pub none_left : (known : Known) (judge : Option JudgeState) (events : List Event) → events ≡ [] → IsHanded known judge events → IsJudgeOf known.declared judge known.past
+none_left known judge events none h =
+    subst (λ (es : List Event). IsJudgeOf known.declared judge es) (sym (h.past_is ∙ ap (λ (es : List Event). h.front ++ es) none ∙ append-nil h.front)) h.judged
 
--- the judge stands for all, or the last ones are left to it
-pub all_judged : (decls : DeclsState) (k : JudgeState) (past : List Event) → judging.StandsFor decls.declarations k past → IsHanded decls (Some k) [] past
-all_judged decls k past J = record { front = past; past_is = sym (append-nil past); judged = J }
+-- and where it took the last ones it stands for all of them
+pub all_judged : (old new : JudgeState) (events : List Event) → GoesOn old events new → (known : Known) → IsHanded known (Some old) events → IsHanded known (Some new) []
+all_judged old new events goes known h = record { front = known.past; past_is = sym (append-nil known.past); judged = by known.declared h.judged }
+  where
+    by : (declared : Option (List Declaration)) → IsJudgeOf declared (Some old) h.front → IsJudgeOf declared (Some new) known.past
+    by None J = J
+    by (Some ds) J = subst (λ (es : List Event). judging.StandsFor ds new es) (sym h.past_is) (goes ds h.front J)
 
-pub last_left : (decls : DeclsState) (k : JudgeState) (past last : List Event) → judging.StandsFor decls.declarations k past → IsHanded decls (Some k) last (past ++ last)
-last_left decls k past last J = record { front = past; past_is = refl; judged = J }
+-- what was declared when the judge was made is declared still
+judge_now : {A : Type 0} (s : EventStream A) (declared : Option (List Declaration)) → IfSome declared (HasDeclared s) → (judge : Option JudgeState) (past : List Event)
+    → IsJudgeOf declared judge past → IsJudgeOf (Some (decls_of s).declarations) judge past
+judge_now s declared has None past judged = judged
+judge_now s None has (Some k) past judged = absurd judged
+judge_now s (Some ds) has (Some k) past judged = subst (λ (ds : List Declaration). judging.StandsFor ds k past) (sym has.1) judged
 
-module _ {A : Type 0} (judge : Option JudgeState) (events : List Event) (old : EventStream A) where
-  pub some_stream : grammar.StandsForSome (StandsBehind judge events old) → stream.StandsForSome old
-  some_stream some = record { past = some.stands.past; lines = some.lines; stands = some.stands.stream }
+-- a stream whose events are handed on, by the judge of those before them, which was begun if there was none
+module _ {A : Type 0} (h : Handed A) (s : EventStream A) (k : JudgeState) (none : h.events.items ≡ [])
+    (begun : (past : List Event) → IsJudgeOf (Some (decls_of s).declarations) h.judge past → judging.StandsFor (decls_of s).declarations k past) where
+  pub judged_before : (known : Known) (lines : List (List ℕ)) → StandsBehind h known s lines → judging.StandsFor (decls_of s).declarations k known.past
+  judged_before known lines S =
+      begun known.past (judge_now s known.declared S.stream.declared h.judge known.past (none_left known h.judge h.events.items none S.handed))
 
-  -- the judge stays while the stream goes on, since where there is one nothing is declared
-  module _ (s : EventStream A) (declares : DeclaresNothing old s) where
-    judge_stays : (k : Option JudgeState) → (is_some k ≡ true → IsTrue (has_events old)) → (past : List Event) → IsJudgeOf (decls_of old) k past
-        → IsJudgeOf (decls_of s) k past
-    judge_stays None begun past judged = judged
-    judge_stays (Some k) begun past judged = subst (λ (ds : List Declaration). judging.StandsFor ds k past) (sym (declares.same (begun refl))) judged
+  pub can_take_next : (known : Known) × grammar.StandsForSome (StandsBehind h known s) → IsTrace (trace_with [] s) → CanTake k (events_of s)
+  can_take_next (known, some) well = can_take s known.past some.lines some.stands.stream.stream k (judged_before known some.lines some.stands) well
 
-    pub goes_on : (lines more : List (List ℕ)) (S : StandsBehind judge events old lines) → StandsWith s S.past more → StandsBehind judge events s more
-    goes_on lines more S stands = record {
-      past = S.past;
-      stream = stands;
-      handed = record { front = S.handed.front; past_is = S.handed.past_is; judged = judge_stays judge S.begun S.handed.front S.handed.judged };
-      begun = λ some. declares.stays (S.begun some);
-    }
-
-    pub takes : (line : List ℕ) → ((past : List Event) → Takes trace_causes (StandsWith old past) line (StandsWith s past))
-        → Takes trace_causes (StandsBehind judge events old) line (StandsBehind judge events s)
-    takes line took lines S =
-        let behind = took S.past lines S.stream in
-        record { no_cause = behind.no_cause; stands = goes_on lines (lines ++ line ∷ []) S behind.stands }
-
-  -- a line is taken, or what is owed is told
-  pub line_answered : (s : EventStream A) (line : List ℕ) (r : Result (Unit {0}) TextCause)
-      → MatchResult r (λ _. (past : List Event) → Takes trace_causes (StandsWith old past) line (StandsWith s past))
-      (λ told. (past : List Event) → grammar.Tells trace_causes (StandsWith old past) line told)
-      → OnOk r (DeclaresNothing old s)
-      → MatchResult r (λ _. Takes trace_causes (StandsBehind judge events old) line (StandsBehind judge events s))
-      (λ told. grammar.Tells trace_causes (StandsBehind judge events old) line told)
-  line_answered s line (Ok x) taken declares = takes s declares line taken
-  line_answered s line (Err told) tells declares = λ lines S. tells S.past lines S.stream
-
-  -- the same of a common line
-  pub common_answered : (s : EventStream A) (bytes : List ℕ) (r : Result (Option (Bor (List ℕ))) TextCause) → grammar.StandsForSome (StandsBehind judge events old)
-      → MatchResult r (λ rest. (past : List Event) → TakesIfTold trace_causes (StandsWith old past) bytes rest (StandsWith s past))
-      (λ told. (past : List Event) → TellsOfFront trace_causes (StandsWith old past) bytes told)
-      → OnOk r (DeclaresNothing old s)
-      → MatchResult r (λ rest. TakesIfTold trace_causes (StandsBehind judge events old) bytes rest (StandsBehind judge events s))
-      (λ told. TellsOfFront trace_causes (StandsBehind judge events old) bytes told)
-  common_answered s bytes (Ok (Some rest)) some taken declares = ((taken some.stands.past).0, takes s declares (line_in bytes) (λ past. (taken past).1))
-  common_answered s bytes (Ok None) some taken declares = λ lines S. goes_on s declares lines lines S (taken S.past lines S.stream)
-  common_answered s bytes (Err told) some tells declares =
-      let front = tells some.stands.past in
-      record { rest = front.rest; ends = front.ends; least = λ lines S. (tells S.past).least lines S.stream }
-
-  -- where nothing is left to the judge
-  module _ (none : events ≡ []) where
-    pub judge_of : (past : List Event) → IsHanded (decls_of old) judge events past → IsJudgeOf (decls_of old) judge past
-    judge_of past h = none_left (decls_of old) judge past (subst (λ (es : List Event). IsHanded (decls_of old) judge es past) none h)
-
-    pub some_hands_on : grammar.StandsForSome (StandsBehind judge events old) → HandsOnSome old judge
-    some_hands_on some = record {
-      past = some.stands.past;
-      lines = some.lines;
-      hands_on = record { stream = some.stands.stream; judged = judge_of some.stands.past some.stands.handed };
-    }
-
-    -- the gathered events are handed on, judged or not
-    pub handed_on : (s : EventStream A) (k : JudgeState) (left : List Event) → IsTrue (has_events old) → DeclaresNothing old s
-        → ((past : List Event) → ForEachLines (StandsWith old past) (StandsWith s (past ++ events_of old)))
-        → ((past : List Event) → IsJudgeOf (decls_of old) judge past → IsHanded (decls_of old) (Some k) left (past ++ events_of old))
-        → ForEachLines (StandsBehind judge events old) (StandsBehind (Some k) left s)
-    handed_on s k left begun declares stands hands lines S =
-        let h = hands S.past (judge_of S.past S.handed) in
-        record {
-          past = S.past ++ events_of old;
-          stream = stands S.past lines S.stream;
-          handed = record {
-            front = h.front;
-            past_is = h.past_is;
-            judged = subst (λ (ds : List Declaration). judging.StandsFor ds k h.front) (sym (declares.same begun)) h.judged;
-          };
-          begun = λ some. declares.stays begun;
-        }
-
-    -- all that was read is the judge's
-    pub read_as : (s : EventStream A) (bytes : List ℕ) → IsTextBehind judge events s bytes → IsReadText (record { stream = s; judge = judge }) bytes
-    read_as s bytes T = record {
-      past = T.past;
-      lines = T.lines;
-      hands_on = record {
-        stream = T.stream;
-        judged = none_left (decls_of s) judge T.past (subst (λ (es : List Event). IsHanded (decls_of s) judge es T.past) none T.handed);
-      };
-      text = T.text;
-    }
-
-  -- all that was read, where no cause holds at the end
-  pub whole_is : (last : List ℕ) → ((past : List Event) → ForEachLines (StandsWith old past) (λ lines. trace_causes.end lines last ≡ None))
-      → IsTextAtEnd old last → ForEachLines (StandsBehind judge events old) (IsWhole trace_causes (λ (s : EventStream A) bytes. IsTextBehind judge events s bytes) last old)
-  whole_is last none text lines S =
-      let no_cause = none S.past lines S.stream in
-      record {
-        no_cause = no_cause;
-        text = record { past = S.past; lines = lines; stream = S.stream; handed = S.handed; text = text S.past lines S.stream no_cause };
-      }
+  pub handed_over : (new : EventStream A) (after : Handed A) → after.judge ≡ Some k → after.events.items ≡ events_of s → IsTrue (has_events s)
+      → DeclaresNothing s new → ((past : List Event) → ForEachLines (StandsWith s past) (StandsWith new (past ++ events_of s)))
+      → (known : Known) → ForEachLines (StandsBehind h known s) (StandsBehind after (known_behind known s) new)
+  handed_over new after judge moved some declares stands known lines S = record {
+    stream = record { stream = stands known.past lines S.stream.stream; declared = (declares.stays some, declares.same some) };
+    handed = record {
+      front = known.past;
+      past_is = ap (λ (es : List Event). known.past ++ es) (sym moved);
+      judged = subst (λ (o : Option JudgeState). IsJudgeOf (Some (decls_of s).declarations) o known.past) (sym judge) (judged_before known lines S);
+    };
+  }

@@ -1,38 +1,27 @@
 -- A trace that is judged while it is read: its events are handed on to a judge, and forgotten.
-use Rattle.std.specs.{Prelude.{◌≡◌, ℕ, true, IsTrue, List, [], ◌++◌, Option, Some, None}, Option.is_some}
-use Rattle.race_records.specs.{declared.event.Event.Event, Declarations.DeclsState, Events.TraceState}
+use Rattle.std.specs.Prelude.{◌≡◌, ℕ, true, List, [], ◌++◌, Option, Some, None, IsSomeAnd}
+use Rattle.race_records.specs.{declared.event.Event.Event, Declarations.Declaration, Events.TraceState}
 use Rattle.race_verdict.specs.{declared.notes.NotedVerdict.NotedVerdict, Notes.{verdict_noted, IsNotedOf}}
 use Rattle.race_verdict.specs.Traces.{HasVerdict}
 use Rattle.race_shards.specs.{Judging.JudgeState, Limits.is_block}
-use Rattle.race_text.specs.{declared.stream.EventStream.EventStream, Fault.text_fault, Stream.{StandsWith, decls_of}}
-use Rattle.race_text.specs.{Stream.{has_events, trace_with}, Text.IsTextOf}
+use Rattle.race_text.specs.{declared.stream.EventStream.EventStream, Fault.text_fault, Text.IsTextOf}
+use Rattle.race_text.specs.Stream.{Known, StandsFor, StandsWith, decls_of, events_of, trace_with}
 use Rattle.race_report.specs.{Noted.report_noted, Report.fault_line}
-use Rattle.race_tool.specs.declared.{handed.Handed.Handed, judged_stream.JudgedStream.JudgedStream}
+use Rattle.race_tool.specs.declared.{handed.Handed.Handed, intake.JudgedStream.JudgedStream}
 use Rattle.race_tool.specs.declared.stream_found.Found.{Found}
 use Rattle.race_shards.specs.Judging as judging
 use Rattle.race_tool.specs.declared.status.TheConstants as status
 
--- the judge stands for these events; before the first one there is no judge
-abbrev pub IsJudgeOf : DeclsState → Option JudgeState → List Event → Type 0
-IsJudgeOf decls None past = past ≡ []
-IsJudgeOf decls (Some judge) past = judging.StandsFor decls.declarations judge past
+-- the judge stands for these events, by what was declared; before the first one there is no judge
+abbrev pub IsJudgeOf : Option (List Declaration) → Option JudgeState → List Event → Type 0
+IsJudgeOf declared None past = past ≡ []
+IsJudgeOf declared (Some judge) past = IsSomeAnd declared (λ declarations. judging.StandsFor declarations judge past)
 
--- the stream took these lines and handed on these events, for which the judge stands
-pub record HandsOn {A : Type 0} (s : EventStream A) (judge : Option JudgeState) (past : List Event) (lines : List (List ℕ)) : Type 0 where
-  pub stream : StandsWith s past lines
-  pub judged : IsJudgeOf (decls_of s) judge past
-
--- it took some lines, and handed on some events
-pub record HandsOnSome {A : Type 0} (s : EventStream A) (judge : Option JudgeState) : Type 0 where
-  pub past : List Event
-  pub lines : List (List ℕ)
-  pub hands_on : HandsOn s judge past lines
-
--- these events were handed on: the judge stands for the first of them, and it takes the last ones next
-pub record IsHanded (decls : DeclsState) (judge : Option JudgeState) (events past : List Event) : Type 0 where
+-- the judge stands for the first of the events that were handed on, and takes the last ones, which are these, next
+pub record IsHanded (k : Known) (judge : Option JudgeState) (events : List Event) : Type 0 where
   pub front : List Event
-  pub past_is : past ≡ front ++ events
-  pub judged : IsJudgeOf decls judge front
+  pub past_is : k.past ≡ front ++ events
+  pub judged : IsJudgeOf k.declared judge front
 
 -- the judge can take these events next; without a judge there are none
 abbrev pub CanTakeNext : Option JudgeState → List Event → Type 0
@@ -44,45 +33,27 @@ pub record CanJudgeAll {A : Type 0} (h : Handed A) : Type 0 where
   pub can : CanTakeNext h.judge h.events.items
   pub block : is_block h.judging.block ≡ true
 
--- none is left of them
-pub record HasNoneLeft {A : Type 0} (old new : Handed A) : Type 0 where
-  pub none : new.events.items ≡ []
-  pub judging : new.judging ≡ old.judging
-
 -- the judge took the events, and stands for all that was handed on
 pub record JudgesAll {A : Type 0} (old new : Handed A) : Type 0 where
-  pub left : HasNoneLeft old new
-  pub begun : is_some new.judge ≡ is_some old.judge
-  pub goes_on : (decls : DeclsState) (past : List Event) → IsHanded decls old.judge old.events.items past → IsHanded decls new.judge new.events.items past
+  pub none : new.events.items ≡ []
+  pub judging : new.judging ≡ old.judging
+  pub goes_on : (k : Known) → IsHanded k old.judge old.events.items → IsHanded k new.judge new.events.items
 
--- a stream took these lines, and handed events on; there is a judge only where there are events
-pub record StandsBehind {A : Type 0} (judge : Option JudgeState) (events : List Event) (s : EventStream A) (lines : List (List ℕ)) : Type 0 where
-  pub past : List Event
-  pub stream : StandsWith s past lines
-  pub handed : IsHanded (decls_of s) judge events past
-  pub begun : is_some judge ≡ true → IsTrue (has_events s)
+-- a stream took these lines, and what it handed on was handed on to this
+pub record StandsBehind {A : Type 0} (h : Handed A) (k : Known) (s : EventStream A) (lines : List (List ℕ)) : Type 0 where
+  pub stream : StandsFor k s lines
+  pub handed : IsHanded k h.judge h.events.items
 
--- a stream with its judge, to which none of them is left
-abbrev pub StandsFor : {A : Type 0} → JudgedStream A → List (List ℕ) → Type 0
-StandsFor j lines = StandsBehind j.judge [] j.stream lines
+-- what is known of a stream when its events are handed on too
+abbrev pub known_behind : {A : Type 0} → Known → EventStream A → Known
+known_behind k s = record { past = k.past ++ events_of s; declared = Some (decls_of s).declarations }
 
--- the same by what was handed on
-abbrev pub StandsAfter : {A : Type 0} → Handed A → EventStream A → List (List ℕ) → Type 0
-StandsAfter h s lines = StandsBehind h.judge h.events.items s lines
-
--- the bytes are the text of the trace that was read behind these events
-pub record IsTextBehind {A : Type 0} (judge : Option JudgeState) (events : List Event) (s : EventStream A) (bytes : List ℕ) : Type 0 where
-  pub past : List Event
-  pub lines : List (List ℕ)
-  pub stream : StandsWith s past lines
-  pub handed : IsHanded (decls_of s) judge events past
-  pub text : IsTextOf (trace_with past s) bytes
-
--- the bytes are the text of the trace that was read, with the events that were handed on
+-- the bytes are the text of the trace that was read, with the events that were handed on, and the judge stands for all its events
 pub record IsReadText {A : Type 0} (j : JudgedStream A) (bytes : List ℕ) : Type 0 where
   pub past : List Event
   pub lines : List (List ℕ)
-  pub hands_on : HandsOn j.stream j.judge past lines
+  pub stream : StandsWith j.stream past lines
+  pub judged : judging.StandsFor (decls_of j.stream).declarations j.judge (past ++ events_of j.stream)
   pub text : IsTextOf (trace_with past j.stream) bytes
 
 -- the verdict on the trace, and what is noted with it is of its events

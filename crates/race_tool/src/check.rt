@@ -7,11 +7,11 @@ ghost use Rattle.race_tool.specs.declared.status.TheConstants as status;
 
 use crate::engine::{Engine, answer, status_of_fault};
 use crate::finding::{Finding, find};
-use crate::judged_stream::Judging;
+use crate::handed::Judging;
+use crate::intake::read_judged;
 use crate::printing::write_finding;
 use crate::status;
 use crate::stream_found::find_judged;
-use crate::stream_input::read_judged;
 use race_records::{Sink, Source, WriteFault};
 use race_shards::{MAX_BLOCK, MAX_SHARDS};
 use race_text::Reader;
@@ -117,7 +117,7 @@ fn check_as_read<T: Threads + Wait + Sync, R: Read, W: Write, A: Allocator + Cop
 {
     let judging = options.judging();
     match read_judged(rt, alloc, source, judging) {
-        Ok(text) => match find_judged(rt, alloc, judging, text) {
+        Ok(text) => match find_judged(text) {
             Ok(found) => match found.write(sink) {
                 Ok(()) => found.status(),
                 Err(_) => status::DEVICE,

@@ -42,7 +42,7 @@ pub(crate) trait Engine {
 
     /// A reader that took no line.
     fn reader(&self) -> Self::Reader
-        ensures { Self.Reader.stands_for result [] };
+        ensures { Self.Reader.stands_for Self.Reader.at_start result [] };
 
     /// Writes what is right for some bytes.
     fn write<W: Write>(&self, found: &Self::Found, sink: &mut Sink<W>) -> Result<(), WriteFault>
@@ -67,7 +67,7 @@ where
     F: FnOnce(Result<<E::Reader as Grammar>::Whole, TextFault>) -> Result<E::Found, NoFinding>,
     requires can { F.IsAlwaysCallable find }
     requires finds { (text : _) (found : _) → F.post find text found
-        → Finds E.Reader.is_text_of E.Reader.causes (E.is_right engine.now) (E.is_unrecorded engine.now) text found }
+        → Finds (E.Reader.is_text_of E.Reader.at_start) E.Reader.causes (E.is_right engine.now) (E.is_unrecorded engine.now) text found }
     ensures { Answers E.Reader.causes (E.is_right engine.now) E.text_of E.status_for (E.is_unrecorded engine.now)
         R.remaining W.contents source.old source.new sink.old sink.new result }
 {

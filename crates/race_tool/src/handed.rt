@@ -1,21 +1,41 @@
 //! The events of a trace that were handed on, and their judge.
-ghost use Rattle.std.specs.Prelude.{◌≡◌, true, [], None, IsTrue, OnOk};
+ghost use Rattle.std.specs.Prelude.{◌≡◌, ◌<◌, ◌++◌, true, [], Some, None, List, IsTrue, IfOk, IfSome, OnOk};
+ghost use Rattle.race_records.specs.{declared.event.Event.Event, Declarations.Declaration};
+ghost use Rattle.race_shards.specs.Judging as judges;
 ghost use Rattle.race_shards.specs.Limits.{is_block};
 ghost use Rattle.race_text.specs.Grammar as grammar;
-ghost use Rattle.race_text.specs.Stream.{has_events};
+ghost use Rattle.race_text.specs.Stream.{Known, decls_of, events_of, has_events};
 ghost use Rattle.race_tool.specs.Streams as spec;
 
-use crate::judged_stream::{Judging, feed_gathered, started};
-use race_records::Event;
-use race_shards::Judge;
+use race_records::{Decls, Event};
+use race_shards::{Judge, JudgeFault, OpenGate};
 use race_text::EventStream;
 use std::alloc::{AllocError, Allocator};
 use std::sync::Wait;
 use std::thread::Threads;
 
+/// Who judges: so many shards, of which several are handed so many events at a time.
+#[derive(Clone, Copy)]
+pub(crate) struct Judging {
+    /// How many shards share the variables among them.
+    pub(crate) shards: usize,
+    /// How many events they are handed at a time.
+    pub(crate) block: usize,
+}
+
+impl Judging {
+    /// How many events are read before they are handed on: one shard takes them as they come.
+    pub(crate) fn wanted(&self) -> usize
+        requires { is_block self.now.block ≡ true }
+        ensures { 0 < result }
+    {
+        if self.shards == 1 { 1 } else { self.block }
+    }
+}
+
 /// What was handed on of a trace that is read on meanwhile.
 ///
-/// The judge is made at the first event, behind which nothing is declared.
+/// The judge is made at the first event, after which nothing is declared.
 #[derive(Drop)]
 pub(crate) struct Handed<A: Allocator> {
     /// Who judges.
@@ -48,7 +68,7 @@ impl<A: Allocator + Copy + Send> Handed<A> {
         let Some(judge) = &mut self.judge else {
             return Ok(());
         };
-        match feed_gathered(rt, self.judging, judge, self.events.as_slice()) {
+        match feed_handed(rt, self.judging, judge, self.events.as_slice()) {
             Ok(()) => {
                 self.events.clear();
                 Ok(())
@@ -57,13 +77,14 @@ impl<A: Allocator + Copy + Send> Handed<A> {
         }
     }
 
-    /// Takes the events that were gathered, where none is left.
+    /// Takes the events that were read, where none is left.
     pub(crate) fn take(&mut self, alloc: A, stream: &mut EventStream<A>) -> Result<(), AllocError>
-        requires some { grammar.StandsForSome (spec.StandsAfter self.old stream.old) }
+        requires some { (k : Known) × grammar.StandsForSome (spec.StandsBehind self.old k stream.old) }
         requires none { self.old.events.items ≡ [] }
         requires begun { IsTrue (has_events stream.old) }
         requires block { is_block self.old.judging.block ≡ true }
-        ensures stands { OnOk result (grammar.ForEachLines (spec.StandsAfter self.old stream.old) (spec.StandsAfter self.new stream.new)) }
+        ensures stands { OnOk result ((k : Known) → grammar.ForEachLines (spec.StandsBehind self.old k stream.old)
+            (spec.StandsBehind self.new (spec.known_behind k stream.old) stream.new)) }
         ensures can { OnOk result (spec.CanJudgeAll self.new) }
     {
         let before = self.judge.take();
@@ -71,5 +92,63 @@ impl<A: Allocator + Copy + Send> Handed<A> {
         self.judge = Some(judge);
         stream.hand_over(&mut self.events);
         Ok(())
+    }
+
+    /// The judge of all events, of which the last ones are the stream's.
+    pub(crate) fn judge_rest<T: Threads + Wait>(
+        self,
+        rt: &T,
+        alloc: A,
+        stream: &EventStream<A>,
+    ) -> Result<Judge<A>, AllocError>
+        requires some { (k : Known) × grammar.StandsForSome (spec.StandsBehind self k stream.now) }
+        requires none { self.events.items ≡ [] }
+        requires block { is_block self.judging.block ≡ true }
+        ensures { IfOk result (λ judge. (k : Known) → grammar.ForEachLines (spec.StandsBehind self k stream.now)
+            (λ _. judges.StandsFor (decls_of stream.now).declarations judge (k.past ++ events_of stream.now))) }
+    {
+        let mut judge = started(alloc, self.judging.shards, stream.decls(), self.judge)?;
+        match feed_handed(rt, self.judging, &mut judge, stream.events()) {
+            Ok(()) => Ok(judge),
+            Err(_) => Err(AllocError),
+        }
+    }
+}
+
+// Lets the judge take the events: several shards in blocks, and one at once.
+fn feed_handed<T: Threads + Wait, A: Allocator + Copy + Send>(
+    rt: &T,
+    judging: Judging,
+    judge: &mut Judge<A>,
+    events: &[Event],
+) -> Result<(), JudgeFault>
+    requires can { judges.CanTake judge.old events.now }
+    requires block { is_block judging.block ≡ true }
+    ensures { OnOk result (judges.GoesOn judge.old events.now judge.new) }
+{
+    if judging.shards == 1 {
+        judge.feed(rt, events, &OpenGate)
+    } else {
+        judge.feed_in_blocks(rt, events, judging.block, &OpenGate)
+    }
+}
+
+// The judge, or else one that has taken no event.
+fn started<A: Allocator + Copy + Send>(
+    alloc: A,
+    shards: usize,
+    decls: &Decls<A>,
+    before: Option<Judge<A>>,
+) -> Result<Judge<A>, AllocError>
+    ensures stands { IfOk result (λ judge. (past : List Event) → spec.IsJudgeOf (Some decls.now.declarations) before past
+        → judges.StandsFor decls.now.declarations judge past) }
+    ensures shards { IfOk result (λ judge. IfSome before (λ first. first.count ≡ shards) → judge.count ≡ shards) }
+{
+    match before {
+        Some(judge) => Ok(judge),
+        None => match Judge::new(alloc, decls, shards) {
+            Ok(judge) => Ok(judge),
+            Err(_) => Err(AllocError),
+        },
     }
 }

@@ -40,8 +40,8 @@ pub(crate) fn read_text<R: Read, G: Grammar, A: Allocator + Copy>(
     source: &mut Source<R>,
     grammar: G,
 ) -> Result<Result<G::Whole, TextFault>, ReadFault>
-    requires { G.stands_for grammar [] }
-    ensures { ReadsInput G.is_text_of G.causes R.remaining source.old source.new result }
+    requires { G.stands_for G.at_start grammar [] }
+    ensures { ReadsInput (G.is_text_of G.at_start) G.causes R.remaining source.old source.new result }
 {
     let Ok(mut block) = blank_block(alloc) else {
         return Err(ReadFault::OutOfMemory);
@@ -70,9 +70,9 @@ pub(crate) fn feed_block<R: Read, G: Grammar, A: Allocator + Copy>(
     reader: &mut Fed<G, A>,
 ) -> Result<Result<bool, TextFault>, ReadFault>
     requires length { length block.old ≡ BLOCK }
-    requires ready { IsReady G.stands_for reader.old }
-    ensures ok { IfOk result (λ answer. FeedsMore G.causes (unread R.remaining source.old)
-        (unread R.remaining source.new) (IsFed G.causes G.stands_for reader.old) (IsFed G.causes G.stands_for reader.new) answer) }
+    requires ready { (k : G.Known) × IsReady (G.stands_for k) reader.old }
+    ensures ok { IfOk result (λ answer. (k : G.Known) → FeedsMore G.causes (unread R.remaining source.old) (unread R.remaining source.new)
+        (IsFed G.causes (G.stands_for k) reader.old) (IsFed G.causes (G.stands_for k) reader.new) answer) }
     ensures calm { result ≢ Err ReadFault.Failed
         → source_failures source.new ≡ source_failures source.old }
     ensures failed { result ≡ Err ReadFault.Failed
@@ -81,7 +81,7 @@ pub(crate) fn feed_block<R: Read, G: Grammar, A: Allocator + Copy>(
         → Keeps (unread R.remaining source.old) (unread R.remaining source.new) }
     ensures ends { result ≢ Err ReadFault.Endless }
     ensures reads { source_reads source.new ≡ one_more (source_reads source.old) }
-    ensures ready { OnOk result (IsReady G.stands_for reader.new) }
+    ensures ready { (k : G.Known) → IsReady (G.stands_for k) reader.old → IsReady (G.stands_for k) reader.new }
     ensures fine { IfOk result (λ answer. OnOk answer (reader.new.fault ≡ None)) }
 {
     match source.read(block) {

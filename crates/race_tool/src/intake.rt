@@ -1,43 +1,44 @@
-//! Reading a trace while several shards judge the events that were read before.
+//! Reading a trace whose events are judged meanwhile, and forgotten.
 ghost use Rattle.std.specs.Prelude.{◌≡◌, ◌≢◌, ◌<◌, true, [], Some, IfOk, IfErr, OnOk, OnErr};
 ghost use Rattle.race_records.specs.Devices.{unread, source_failures, one_more};
 ghost use Rattle.race_shards.specs.Limits.{is_block};
-ghost use Rattle.race_text.specs.{declared.{cause.{TextCause.{TextCause as Cause}}}, Fault.trace_causes};
-ghost use Rattle.race_text.specs.{Fed.ForEachFedTo, Lines.first_fault};
-ghost use Rattle.race_tool.specs.{Input.ReadsInput, Intake.{IsReadable, ReadsOn, of_stream, with_reader}};
+ghost use Rattle.race_text.specs.{Fault.trace_causes, Fed.ForEachFedTo, Lines.first_fault, Stream.{Known, StandsFor}};
+ghost use Rattle.race_tool.specs.{Input.ReadsInput, Intake.{CanFinish, IsReadable, ReadsOnAll}};
 ghost use Rattle.race_tool.specs.Streams as spec;
 
-use crate::gathered::{
-    Gathered, HandedOn, blank_reader, by_grammar, by_itself, feed_behind, finish_behind,
-};
-use crate::handed::Handed;
-use crate::input::{MAX_TURNS, ReadFault, blank_block, set_memory_apart};
-use crate::judged_stream::{JudgedStream, Judging};
+use crate::handed::{Handed, Judging};
+use crate::input::{MAX_TURNS, ReadFault, blank_block, feed_block, set_memory_apart};
 use race_records::Source;
+use race_shards::Judge;
 use race_text::{EventStream, Fed, TextFault};
 use std::alloc::{AllocError, Allocator};
 use std::io::Read;
-use std::marker::Brand;
-use std::snapshot::Snapshot;
 use std::sync::Wait;
+use std::thread;
 use std::thread::Threads;
-use std::{mem, thread};
+
+/// A trace that was read, and the judge of all its events.
+#[derive(Drop)]
+pub(crate) struct JudgedStream<A: Allocator> {
+    /// What was read.
+    pub(crate) stream: EventStream<A>,
+    /// The judge of its events, also of those that were handed on.
+    pub(crate) judge: Judge<A>,
+}
 
 // What was read so far, and by how many reads.
 #[derive(Drop)]
 struct Intake<A: Allocator> {
-    alloc: A,
     block: Vec<u8, A>,
     reader: Fed<EventStream<A>, A>,
     turns: u64,
-    // How many events are gathered before they are handed on.
+    // How many events are read before they are handed on.
     wanted: usize,
-    // What was handed on, when this was read on last.
-    handed: Snapshot<Handed<A>>,
 }
 
-/// Reads a trace as `read_text` does. A block of its events is judged while the next one is gathered.
-pub(crate) fn read_beside<T: Threads + Wait + Sync, R: Read, A: Allocator + Copy + Send>(
+/// Reads a trace as `read_text` does, and judges its events. Several shards judge a block of them while the
+/// next one is read, and one shard judges what was read before more is read.
+pub(crate) fn read_judged<T: Threads + Wait + Sync, R: Read, A: Allocator + Copy + Send>(
     rt: &T,
     alloc: A,
     source: &mut Source<R>,
@@ -50,18 +51,18 @@ pub(crate) fn read_beside<T: Threads + Wait + Sync, R: Read, A: Allocator + Copy
         return Err(ReadFault::OutOfMemory);
     };
     let mut handed = Handed::new(alloc, judging);
+    let first = EventStream::new(alloc);
+    let reader = Fed::new(alloc, first);
     let mut intake = Intake {
-        alloc,
         block,
-        reader: blank_reader(alloc),
+        reader,
         turns: 0,
-        wanted: judging.block,
-        handed: Snapshot::of(&handed),
+        wanted: judging.wanted(),
     };
     loop {
         match read_next(rt, source, &mut intake, &mut handed)? {
             Ok(true) => {}
-            Ok(false) => return set_memory_apart(intake.finish(handed)),
+            Ok(false) => return finish(rt, alloc, intake, handed),
             Err(fault) => return Ok(Err(fault)),
         }
         let stream = &mut intake.reader.lines.reader;
@@ -71,7 +72,7 @@ pub(crate) fn read_beside<T: Threads + Wait + Sync, R: Read, A: Allocator + Copy
     }
 }
 
-// Reads on while the events that were handed on are judged. A fault that was read is told before a refusal.
+// Judges the events that were handed on, and reads on: at the same time where there are several shards.
 fn read_next<T: Threads + Wait + Sync, R: Read, A: Allocator + Copy + Send>(
     rt: &T,
     source: &mut Source<R>,
@@ -79,14 +80,15 @@ fn read_next<T: Threads + Wait + Sync, R: Read, A: Allocator + Copy + Send>(
     handed: &mut Handed<A>,
 ) -> Result<Result<bool, TextFault>, ReadFault>
     requires can { spec.CanJudgeAll handed.old }
-    requires ready { IsReadable (spec.StandsAfter handed.old) intake.old }
-    ensures reads { ReadsOn R.remaining (spec.StandsAfter handed.old) (spec.StandsAfter handed.new)
-        source.old source.new intake.old intake.new result }
-    ensures none { IfOk result (λ answer. OnOk answer (spec.HasNoneLeft handed.old handed.new)) }
+    requires ready { (k : Known) × IsReadable (StandsFor k) intake.old }
+    ensures reads { ReadsOnAll R.remaining source.old source.new intake.old intake.new result }
+    ensures judges { IfOk result (λ answer. OnOk answer (spec.JudgesAll handed.old handed.new)) }
 {
-    intake.handed = Snapshot::of(handed);
-    if handed.events.is_empty() {
-        return intake.read_on(source);
+    if handed.judging.shards == 1 || handed.events.is_empty() {
+        return match handed.judge_all(rt) {
+            Ok(()) => intake.read_on(source),
+            Err(_) => Err(ReadFault::OutOfMemory),
+        };
     }
     let (judged, read) = judge_and_read(rt, source, intake, handed);
     first_told(judged, read)
@@ -123,10 +125,9 @@ fn judge_and_read<T: Threads + Wait + Sync, R: Read, A: Allocator + Copy + Send>
     Result<Result<bool, TextFault>, ReadFault>,
 )
     requires can { spec.CanJudgeAll handed.old }
-    requires ready { IsReadable (spec.StandsAfter intake.old.handed.value) intake.old }
+    requires ready { (k : Known) × IsReadable (StandsFor k) intake.old }
     ensures judges { OnOk result.0 (spec.JudgesAll handed.old handed.new) }
-    ensures reads { ReadsOn R.remaining (spec.StandsAfter intake.old.handed.value) (spec.StandsAfter intake.old.handed.value)
-        source.old source.new intake.old intake.new result.1 }
+    ensures reads { ReadsOnAll R.remaining source.old source.new intake.old intake.new result.1 }
 {
     thread::join_mut(
         rt,
@@ -134,77 +135,58 @@ fn judge_and_read<T: Threads + Wait + Sync, R: Read, A: Allocator + Copy + Send>
             requires { spec.CanJudgeAll handed.now }
         { handed.judge_all(rt) },
         &mut ||
-            requires { IsReadable (spec.StandsAfter intake.now.handed.value) intake.now }
+            requires { (k : Known) × IsReadable (StandsFor k) intake.now }
         { intake.read_on(source) },
     )
 }
 
 impl<A: Allocator + Copy> Intake<A> {
-    // Reads until as many events are gathered as are wanted, and tells whether they are, or to the end of the input or of
+    // Reads until there are as many events as are wanted, and tells whether there are, or to the end of the input or of
     // the block that ends its first faulty line.
     fn read_on<R: Read>(
         &mut self,
         source: &mut Source<R>,
     ) -> Result<Result<bool, TextFault>, ReadFault>
-        requires { IsReadable (spec.StandsAfter self.old.handed.value) self.old }
-        ensures { ReadsOn R.remaining (spec.StandsAfter self.old.handed.value) (spec.StandsAfter self.old.handed.value)
-            source.old source.new self.old self.new result }
-    {
-        self.read_behind::<Brand, R>(source)
-    }
-
-    // The same behind what was handed on. The reader is large, and moved but once for all blocks of the input.
-    fn read_behind<L: HandedOn, R: Read>(
-        &mut self,
-        source: &mut Source<R>,
-    ) -> Result<Result<bool, TextFault>, ReadFault>
-        requires { IsReadable (spec.StandsBehind L.judge L.events) self.old }
-        ensures { ReadsOn R.remaining (spec.StandsBehind L.judge L.events) (spec.StandsBehind L.judge L.events)
-            source.old source.new self.old self.new result }
-    {
-        let reader = mem::replace(&mut self.reader, blank_reader(self.alloc));
-        let mut reader = by_grammar::<L, A>(reader);
-        let answer = self.gather(source, &mut reader);
-        self.reader = by_itself(reader);
-        answer
-    }
-
-    // The same by this reader.
-    fn gather<L: HandedOn, R: Read>(
-        &mut self,
-        source: &mut Source<R>,
-        reader: &mut Fed<Gathered<L, A>, A>,
-    ) -> Result<Result<bool, TextFault>, ReadFault>
-        requires { IsReadable (spec.StandsBehind L.judge L.events) (with_reader self.old (of_stream reader.old)) }
-        ensures { ReadsOn R.remaining (spec.StandsBehind L.judge L.events) (spec.StandsBehind L.judge L.events)
-            source.old source.new (with_reader self.old (of_stream reader.old)) (with_reader self.new (of_stream reader.new)) result }
+        requires { (k : Known) × IsReadable (StandsFor k) self.old }
+        ensures { ReadsOnAll R.remaining source.old source.new self.old self.new result }
     {
         while self.turns < MAX_TURNS {
-            match feed_behind(source, self.block.as_mut_slice(), reader) {
+            match feed_block(source, self.block.as_mut_slice(), &mut self.reader) {
                 Ok(Ok(true)) => self.turns += 1,
                 Ok(Ok(false)) => return Ok(Ok(false)),
                 Ok(Err(fault)) => return Ok(Err(fault)),
                 Err(fault) => return Err(fault),
             }
-            if reader.lines.reader.stream.events().len() >= self.wanted {
+            if self.reader.lines.reader.events().len() >= self.wanted {
                 return Ok(Ok(true));
             }
         }
         Err(ReadFault::Endless)
     }
+}
 
-    // What was read as a whole, with the judge of what was handed on.
-    fn finish(self, handed: Handed<A>) -> Result<JudgedStream<A>, TextFault>
-        requires ready { IsReadable (spec.StandsAfter handed) self }
-        requires none { handed.events.items ≡ [] }
-        ensures text { IfOk result (λ text. ForEachFedTo trace_causes (spec.StandsAfter handed) self.reader (spec.IsReadText text)) }
-        ensures fault { IfErr result (λ told. ForEachFedTo trace_causes (spec.StandsAfter handed) self.reader
-            (λ fed. told.cause ≢ Cause.OutOfMemory → first_fault trace_causes fed ≡ Some told)) }
-    {
-        let stream = finish_behind::<Brand, A>(self.reader, &handed)?;
-        Ok(JudgedStream {
-            stream,
-            judge: handed.judge,
-        })
+// What was read as a whole, when its last events are judged too.
+fn finish<T: Threads + Wait, A: Allocator + Copy + Send>(
+    rt: &T,
+    alloc: A,
+    intake: Intake<A>,
+    handed: Handed<A>,
+) -> Result<Result<JudgedStream<A>, TextFault>, ReadFault>
+    requires can { (k : Known) × CanFinish k intake handed }
+    requires block { is_block handed.judging.block ≡ true }
+    ensures text { IfOk result (λ told. IfOk told (λ whole. (k : Known) → spec.IsHanded k handed.judge handed.events.items
+        → ForEachFedTo trace_causes (StandsFor k) intake.reader (spec.IsReadText whole))) }
+    ensures fault { IfOk result (λ told. IfErr told
+        (λ fault. (k : Known) → ForEachFedTo trace_causes (StandsFor k) intake.reader (λ fed. first_fault trace_causes fed ≡ Some fault))) }
+    ensures refused { IfErr result (λ fault. fault ≡ ReadFault.OutOfMemory) }
+{
+    let read = intake.reader.finish();
+    let text = set_memory_apart(read)?;
+    match text {
+        Ok(stream) => match handed.judge_rest(rt, alloc, &stream) {
+            Ok(judge) => Ok(Ok(JudgedStream { stream, judge })),
+            Err(_) => Err(ReadFault::OutOfMemory),
+        },
+        Err(fault) => Ok(Err(fault)),
     }
 }

@@ -1,11 +1,10 @@
 //! What there is to say of a list of bytes of which each event was judged as it was read.
-ghost use Rattle.std.specs.Prelude.{◌≡◌, ℕ, true, List, IfOk};
-ghost use Rattle.race_shards.specs.Limits.{is_block};
+ghost use Rattle.std.specs.Prelude.{◌≡◌, ℕ, List, IfOk};
 ghost use Rattle.race_text.specs.{Fault.trace_causes, Output.Writes};
 ghost use Rattle.race_tool.specs.Input.{IsReadBy};
 ghost use Rattle.race_tool.specs.Streams as spec;
 
-use crate::judged_stream::{JudgedStream, Judging, judge_more};
+use crate::intake::JudgedStream;
 use crate::status;
 use race_records::{Sink, WriteFault};
 use race_report::{write_noted_report, write_text_fault};
@@ -13,8 +12,6 @@ use race_text::{EventStream, TextFault};
 use race_verdict::NotedVerdict;
 use std::alloc::{AllocError, Allocator};
 use std::io::Write;
-use std::sync::Wait;
-use std::thread::Threads;
 
 /// What there is to say of a list of bytes.
 #[derive(Drop)]
@@ -25,39 +22,18 @@ pub(crate) enum Found<A: Allocator> {
     Judged(EventStream<A>, NotedVerdict<A>),
 }
 
-/// What there is to say of what was read, of which the last events aren't judged yet.
-pub(crate) fn find_judged<T: Threads + Wait, A: Allocator + Copy + Send>(
-    rt: &T,
-    alloc: A,
-    judging: Judging,
+/// What there is to say of what was read and judged.
+pub(crate) fn find_judged<A: Allocator + Copy>(
     text: Result<JudgedStream<A>, TextFault>,
 ) -> Result<Found<A>, AllocError>
-    requires some { IfOk text (λ whole. spec.HandsOnSome whole.stream whole.judge) }
-    requires block { is_block judging.block ≡ true }
     ensures { IfOk result (λ found. (bytes : List ℕ) → IsReadBy spec.IsReadText trace_causes bytes text → spec.IsFoundOf bytes found) }
 {
     match text {
-        Ok(whole) => find_verdict(rt, alloc, judging, whole),
+        Ok(whole) => match whole.judge.finish_noted() {
+            Ok(verdict) => Ok(Found::Judged(whole.stream, verdict)),
+            Err(_) => Err(AllocError),
+        },
         Err(fault) => Ok(Found::Faulty(fault)),
-    }
-}
-
-// The verdict on all that was read.
-fn find_verdict<T: Threads + Wait, A: Allocator + Copy + Send>(
-    rt: &T,
-    alloc: A,
-    judging: Judging,
-    whole: JudgedStream<A>,
-) -> Result<Found<A>, AllocError>
-    requires some { spec.HandsOnSome whole.stream whole.judge }
-    requires block { is_block judging.block ≡ true }
-    ensures { IfOk result (λ found. (bytes : List ℕ) → spec.IsReadText whole bytes → spec.IsFoundOf bytes found) }
-{
-    let JudgedStream { stream, judge } = whole;
-    let judge = judge_more(rt, alloc, judging, &stream, judge)?;
-    match judge.finish_noted() {
-        Ok(verdict) => Ok(Found::Judged(stream, verdict)),
-        Err(_) => Err(AllocError),
     }
 }
 

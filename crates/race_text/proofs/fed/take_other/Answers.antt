@@ -6,10 +6,10 @@ use Rattle.race_text.proofs.fed.take_other.Goals as goal
 pub returns-in-None : goal.returns-in-None
 returns-in-None g c =
     let cut : parts_of c.args.bytes.now ≡ c.cut_at.result.0.now ∷ [] = c.cut_at.ensures ∙ ap (λ r. c.cut_at.result.0.now ∷ parts_left 10 r) c.in-None.is in
-    (cut ∙ ap (λ l. l ∷ []) (last_is c.args.bytes.now c.cut_at.result.0.now cut), λ lines stands. stands)
+    λ k. (cut ∙ ap (λ l. l ∷ []) (last_is c.args.bytes.now c.cut_at.result.0.now cut), λ lines stands. stands)
 
 pub returns-in-Err : goal.returns-in-Err
-returns-in-Err g c =
+returns-in-Err g c = λ k.
     let others = c.in-Some.others.now in
     let cut : parts_of c.args.bytes.now ≡ c.cut_at.result.0.now ∷ parts_of others =
     c.cut_at.ensures ∙ ap (λ r. c.cut_at.result.0.now ∷ parts_left 10 r) c.in-Some.is in
@@ -17,5 +17,5 @@ returns-in-Err g c =
     record {
       rest = others;
       ends = cut ∙ ap (λ l. l ∷ parts_of others) (sym line);
-      is = subst (λ l. ForEachLines (g.G.Grammar.stands_for c.args.reader.now) (TellsOfLine g.G.Grammar.causes l c.in-Err.fault)) (sym line) c.in-Err.ensures;
+      is = subst (λ l. ForEachLines (g.G.Grammar.stands_for k c.args.reader.now) (TellsOfLine g.G.Grammar.causes l c.in-Err.fault)) (sym line) (c.in-Err.ensures k);
     }

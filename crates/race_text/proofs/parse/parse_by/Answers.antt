@@ -8,7 +8,7 @@ use Rattle.race_text.proofs.parse.parse_by.Goals as goal
 
 module _ (g : _) (c : goal.After-drop-fed-in_err-feed g) where
   told : IsTold g.G.Grammar.causes c.args.bytes.now c.in_err-feed.field-0.0
-  told = c.in_err-feed.ensures.err [] c.new-fed.ensures.stands
+  told = c.in_err-feed.ensures.err g.G.Grammar.at_start [] c.new-fed.ensures.stands
 
 pub returns-in_err-feed-clause-fault : goal.returns-in_err-feed-clause-fault
 returns-in_err-feed-clause-fault g c =
@@ -24,7 +24,7 @@ pub returns-in_err-feed-clause-owed : goal.returns-in_err-feed-clause-owed
 returns-in_err-feed-clause-owed g c =
     match_err _ (λ (f : TextFault). HidesNone f (ended_fault g.G.Grammar.causes c.args.bytes.now))
     c.from_residual.result c.in_err-feed.field-0.0 c.from_residual.ensures.1
-    (c.in_err-feed.ensures.owed c.new-fed.ensures.fine c.new-fed.ensures.none [] c.new-fed.ensures.stands)
+    (c.in_err-feed.ensures.owed c.new-fed.ensures.fine c.new-fed.ensures.none g.G.Grammar.at_start [] c.new-fed.ensures.stands)
 
 pub returns-in_err-feed-clause-line : goal.returns-in_err-feed-clause-line
 returns-in_err-feed-clause-line g c =
@@ -32,22 +32,22 @@ returns-in_err-feed-clause-line g c =
     c.from_residual.result c.in_err-feed.field-0.0 c.from_residual.ensures.1 (told g c).line
 
 module _ (g : _) (c : goal.After-finish g) where
-  stands : IsFed g.G.Grammar.causes g.G.Grammar.stands_for c.feed.new.self c.args.bytes.now
-  stands = c.in_ok-feed.ensures.goes_on [] c.new-fed.ensures.stands
+  stands : IsFed g.G.Grammar.causes (g.G.Grammar.stands_for g.G.Grammar.at_start) c.feed.new.self c.args.bytes.now
+  stands = c.in_ok-feed.ensures.goes_on g.G.Grammar.at_start [] c.new-fed.ensures.stands
 
 pub returns-clause-text : goal.returns-clause-text
-returns-clause-text g c = IfOk-weaker c.finish.result _ _ (λ whole each. each c.args.bytes.now (stands g c)) c.finish.ensures.text
+returns-clause-text g c = IfOk-weaker c.finish.result _ _ (λ whole each. each g.G.Grammar.at_start c.args.bytes.now (stands g c)) c.finish.ensures.text
 
 pub returns-clause-fault : goal.returns-clause-fault
-returns-clause-fault g c = IfErr-weaker c.finish.result _ _ (λ told each. each c.args.bytes.now (stands g c)) c.finish.ensures.fault
+returns-clause-fault g c = IfErr-weaker c.finish.result _ _ (λ told each. each g.G.Grammar.at_start c.args.bytes.now (stands g c)) c.finish.ensures.fault
 
 pub returns-clause-memory : goal.returns-clause-memory
-returns-clause-memory g c = IfErr-weaker c.finish.result _ _ (λ told each. each c.args.bytes.now (stands g c)) c.finish.ensures.memory
+returns-clause-memory g c = IfErr-weaker c.finish.result _ _ (λ told each. each g.G.Grammar.at_start c.args.bytes.now (stands g c)) c.finish.ensures.memory
 
 pub returns-clause-owed : goal.returns-clause-owed
 returns-clause-owed g c =
     IfErr-weaker c.finish.result _ (λ (f : TextFault). HidesNone f (ended_fault g.G.Grammar.causes c.args.bytes.now))
-    (λ _ _ f is _. absurd (none-some f (sym (c.in_ok-feed.ensures.ok [] c.new-fed.ensures.stands) ∙ is))) c.finish.ensures.line
+    (λ _ _ f is _. absurd (none-some f (sym (c.in_ok-feed.ensures.ok g.G.Grammar.at_start [] c.new-fed.ensures.stands) ∙ is))) c.finish.ensures.line
 
 pub returns-clause-line : goal.returns-clause-line
-returns-clause-line g c = IfErr-weaker c.finish.result _ _ (λ told each. each c.args.bytes.now (stands g c)) c.finish.ensures.line
+returns-clause-line g c = IfErr-weaker c.finish.result _ _ (λ told each. each g.G.Grammar.at_start c.args.bytes.now (stands g c)) c.finish.ensures.line

@@ -3,11 +3,8 @@ use Rattle.race_records.specs.declared.sink.WriteFault.{WriteFault}
 use Rattle.race_text.specs.{Fault.trace_causes, Output.Writes}
 use Rattle.race_tool.specs.{declared.stream_found.Found.Found, Engines.Never, Outcome.Answers}
 use Rattle.race_tool.{specs.Streams.{IsFoundOf, found_text, found_status}, proofs.InputLemmas.itself}
-use Rattle.race_tool.proofs.StreamedAnswers.{some_read, answers_written, answers_cut_off}
+use Rattle.race_tool.proofs.StreamedAnswers.{answers_written, answers_cut_off}
 use Rattle.race_tool.proofs.check.check_as_read.Goals as goal
-
-pub find_judged-requires-clause-some : goal.find_judged-requires-clause-some
-find_judged-requires-clause-some g c κs within = some_read _ _ c.in-Ok.text c.in-Ok.ensures.ok
 
 -- what was found is right for the bytes that were read
 pub write-requires : goal.write-requires

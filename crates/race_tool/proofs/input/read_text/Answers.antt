@@ -1,5 +1,5 @@
 -- A block is fed, and the reader of lines stands for all that was read.
-use Rattle.std.proofs.Common.{Bool, Ok, refl, ap, ◌∙◌, arith}
+use Rattle.std.proofs.{Common.{Bool, Ok, refl, ap, ◌∙◌, arith}, lemmas.Result.{IfOk-weaker, IfErr-weaker}}
 use Rattle.race_records.specs.Devices.{unread, source_reads}
 use Rattle.race_text.specs.Fed.{IsFed as Stands}
 use Rattle.race_tool.proofs.InputLemmas.{fed_none, read_more}
@@ -9,7 +9,7 @@ use Rattle.race_tool.proofs.input.read_text.Goals as goal
 pub loop-init : goal.loop-init
 loop-init g c = record {
   fed = fed_none g.G.Grammar.causes (unread g.R.Read.remaining c.args.source.now)
-      (Stands g.G.Grammar.causes g.G.Grammar.stands_for c.new-reader.result) c.new-reader.ensures.stands;
+      (Stands g.G.Grammar.causes (g.G.Grammar.stands_for g.G.Grammar.at_start) c.new-reader.result) c.new-reader.ensures.stands;
   first = λ none. refl;
   reads = λ some. absurd (omega arith);
   calm = refl;
@@ -21,45 +21,50 @@ pub returns-in_err-feed_block : goal.returns-in_err-feed_block
 returns-in_err-feed_block g c =
     let told = c.in_err-feed_block in
     let held = c.loop.invariant in
-    let Feeds = Stands g.G.Grammar.causes g.G.Grammar.stands_for in
-    reads_failed g.G.Grammar.is_text_of g.G.Grammar.causes g.R.Read.remaining c.args.source.now c.loop.source c.feed_block.new.source
+    let Feeds = Stands g.G.Grammar.causes (g.G.Grammar.stands_for g.G.Grammar.at_start) in
+    reads_failed (g.G.Grammar.is_text_of g.G.Grammar.at_start) g.G.Grammar.causes g.R.Read.remaining c.args.source.now c.loop.source c.feed_block.new.source
     (Feeds c.loop.reader) (Feeds c.feed_block.new.reader) c.loop.counter held.fed held.calm told.field-0.0
     c.from_residual.result c.from_residual.ensures.1 told.ensures.calm told.ensures.failed told.ensures.kept told.ensures.ends
+
+pub finish-requires : goal.finish-requires
+finish-requires g c = (g.G.Grammar.at_start, c.in_ok-feed_block.ensures.ready g.G.Grammar.at_start c.loop.invariant.ready)
 
 pub returns-in-Ok-false : goal.returns-in-Ok-false
 returns-in-Ok-false g c =
     let feeds = c.in_ok-feed_block in
     let held = c.loop.invariant in
     let apart = c.set_memory_apart.ensures in
-    let Feeds = Stands g.G.Grammar.causes g.G.Grammar.stands_for in
-    reads_ended g.G.Grammar.is_text_of g.G.Grammar.causes g.R.Read.remaining c.args.source.now c.loop.source c.feed_block.new.source
+    let Feeds = Stands g.G.Grammar.causes (g.G.Grammar.stands_for g.G.Grammar.at_start) in
+    reads_ended (g.G.Grammar.is_text_of g.G.Grammar.at_start) g.G.Grammar.causes g.R.Read.remaining c.args.source.now c.loop.source c.feed_block.new.source
     (Feeds c.loop.reader) (Feeds c.feed_block.new.reader) c.loop.counter held.fed held.calm
-    feeds.field-0 feeds.ensures.ok (feeds.ensures.calm (λ e. cc)) (c.in-Ok-false.is ∙ ap (λ (b : Bool). Ok b) c.in-Ok-false.field-0-test)
-    c.finish.result c.set_memory_apart.result c.finish.ensures.text c.finish.ensures.fault apart.same apart.others apart.memory
+    feeds.field-0 (feeds.ensures.ok g.G.Grammar.at_start) (feeds.ensures.calm (λ e. cc)) (c.in-Ok-false.is ∙ ap (λ (b : Bool). Ok b) c.in-Ok-false.field-0-test)
+    c.finish.result c.set_memory_apart.result
+    (IfOk-weaker c.finish.result _ _ (λ whole each. each g.G.Grammar.at_start) c.finish.ensures.text)
+    (IfErr-weaker c.finish.result _ _ (λ told each. each g.G.Grammar.at_start) c.finish.ensures.fault) apart.same apart.others apart.memory
 
 pub returns-in-Err : goal.returns-in-Err
 returns-in-Err g c =
     let feeds = c.in_ok-feed_block in
     let held = c.loop.invariant in
-    let Feeds = Stands g.G.Grammar.causes g.G.Grammar.stands_for in
-    reads_faulty g.G.Grammar.is_text_of g.G.Grammar.causes g.R.Read.remaining c.args.source.now c.loop.source c.feed_block.new.source
+    let Feeds = Stands g.G.Grammar.causes (g.G.Grammar.stands_for g.G.Grammar.at_start) in
+    reads_faulty (g.G.Grammar.is_text_of g.G.Grammar.at_start) g.G.Grammar.causes g.R.Read.remaining c.args.source.now c.loop.source c.feed_block.new.source
     (Feeds c.loop.reader) (Feeds c.feed_block.new.reader) c.loop.counter held.fed held.calm
-    feeds.field-0 feeds.ensures.ok (feeds.ensures.calm (λ e. cc)) c.in-Err.fault c.in-Err.is
+    feeds.field-0 (feeds.ensures.ok g.G.Grammar.at_start) (feeds.ensures.calm (λ e. cc)) c.in-Err.fault c.in-Err.is
 
 pub loop-preserved : goal.loop-preserved
 loop-preserved g c =
     let feeds = c.in_ok-feed_block in
     let held = c.loop.invariant in
-    let Feeds = Stands g.G.Grammar.causes g.G.Grammar.stands_for in
+    let Feeds = Stands g.G.Grammar.causes (g.G.Grammar.stands_for g.G.Grammar.at_start) in
     let more = c.in-Ok-true.is ∙ ap (λ (b : Bool). Ok b) c.in-Ok-true.field-0-test in
     record {
       fed = reads_on g.G.Grammar.causes (unread g.R.Read.remaining c.args.source.now) (unread g.R.Read.remaining c.loop.source)
           (unread g.R.Read.remaining c.feed_block.new.source) (Feeds c.loop.reader) (Feeds c.feed_block.new.reader) c.loop.counter held.fed
-          feeds.field-0 feeds.ensures.ok more;
+          feeds.field-0 (feeds.ensures.ok g.G.Grammar.at_start) more;
       first = λ none. absurd (omega arith);
       reads = λ some. read_more c.loop.counter (source_reads c.args.source.now)
           (source_reads c.loop.source) (source_reads c.feed_block.new.source) held.first held.reads feeds.ensures.reads;
       calm = feeds.ensures.calm (λ e. cc) ∙ held.calm;
       room = held.room;
-      ready = feeds.ensures.ready;
+      ready = feeds.ensures.ready g.G.Grammar.at_start held.ready;
     }

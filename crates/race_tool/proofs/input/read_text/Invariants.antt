@@ -8,10 +8,10 @@ use Rattle.race_tool.proofs.input.read_text.Given as goal
 abbrev pub invariant-loop : goal.invariant-loop
 invariant-loop g l = record {
   fed : HasRead g.G.Grammar.causes (unread g.R.Read.remaining l.initial.source) (unread g.R.Read.remaining l.source)
-      (Stands g.G.Grammar.causes g.G.Grammar.stands_for l.reader) l.counter;
+      (Stands g.G.Grammar.causes (g.G.Grammar.stands_for g.G.Grammar.at_start) l.reader) l.counter;
   first : l.counter ≡ 0 → source_reads l.source ≡ source_reads l.initial.source;
   reads : 0 < l.counter → source_reads l.source ≡ more_by l.counter (source_reads l.initial.source);
   calm : source_failures l.source ≡ source_failures l.initial.source;
   room : vec_len l.block ≡ BLOCK;
-  ready : IsReady g.G.Grammar.stands_for l.reader;
+  ready : IsReady (g.G.Grammar.stands_for g.G.Grammar.at_start) l.reader;
 }

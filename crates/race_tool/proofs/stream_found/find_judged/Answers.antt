@@ -1,15 +1,21 @@
-use Rattle.std.proofs.{Common.{IfOk, subst}, lemmas.Result.IfOk-weaker}
-use Rattle.race_text.specs.Fault.{trace_causes}
-use Rattle.race_tool.specs.{Input.IsReadBy, Streams.{HandsOnSome, IsReadText}}
+-- The verdict is that of the trace whose text was read.
+use Rattle.std.proofs.Common.{subst}
+use Rattle.race_text.specs.{Fault.trace_causes, Stream.trace_with}
+use Rattle.race_tool.{specs.{Input.IsReadBy, Streams.IsReadText}, proofs.StreamedLemmas.{decls_with, verdict_is}}
 use Rattle.race_tool.proofs.stream_found.find_judged.Goals as goal
 
-pub find_verdict-requires-clause-some : goal.find_verdict-requires-clause-some
-find_verdict-requires-clause-some g c κs within = subst (λ text. IfOk text (λ whole. HandsOnSome whole.stream whole.judge)) c.in-Ok.is c.requires.some
-
-pub returns-in-Ok : goal.returns-in-Ok
-returns-in-Ok g c =
-    IfOk-weaker c.find_verdict.result _ _ (λ found right bytes read. right bytes (subst (λ text. IsReadBy IsReadText trace_causes bytes text) c.in-Ok.is read))
-    c.find_verdict.ensures
+pub returns-in-Ok-finish_noted : goal.returns-in-Ok-finish_noted
+returns-in-Ok-finish_noted g c = λ bytes text.
+    let whole = c.in-Ok.whole in
+    let read : IsReadText whole bytes = subst (λ text. IsReadBy IsReadText trace_causes bytes text) c.in-Ok.is text in
+    record {
+      trace = trace_with read.past whole.stream;
+      text = read.text;
+      decls = decls_with whole.stream read.past;
+      noted =
+          verdict_is whole.stream read.past read.lines read.stream whole.judge c.in-Ok-finish_noted.verdict
+          read.judged c.in-Ok-finish_noted.ensures.tells c.in-Ok-finish_noted.ensures.notes;
+    }
 
 pub returns-in-Err : goal.returns-in-Err
 returns-in-Err g c = λ bytes read. subst (λ text. IsReadBy IsReadText trace_causes bytes text) c.in-Err.is read

@@ -13,27 +13,27 @@ module _ (g : _) (c : goal.After-finish g) where
       (subst (λ (k : LinesState). StandsFor program_causes k fed) (sym c.self.view_is) S)
 
 pub returns-clause-text : goal.returns-clause-text
-returns-clause-text g c = IfOk-weaker c.finish.result _ _ (λ program each fed S. each fed (fed_to g c fed S)) c.finish.ensures.text
+returns-clause-text g c = IfOk-weaker c.finish.result _ _ (λ program each fed S. each tt fed (fed_to g c fed S)) c.finish.ensures.text
 
 pub returns-clause-only : goal.returns-clause-only
 returns-clause-only g c =
     IfOk-weaker c.finish.result _ _
     (λ program each fed S u is.
-    let has = each fed (fed_to g c fed S) in
+    let has = each tt fed (fed_to g c fed S) in
     equal_texts u program is.program has.program (sym is.printed ∙ has.printed)) c.finish.ensures.text
 
 pub returns-clause-accepted : goal.returns-clause-accepted
 returns-clause-accepted g c =
-    IfErr-weaker c.finish.result _ _ (λ told each fed S. text_is_accepted fed told (each fed (fed_to g c fed S))) c.finish.ensures.fault
+    IfErr-weaker c.finish.result _ _ (λ told each fed S. text_is_accepted fed told (each tt fed (fed_to g c fed S))) c.finish.ensures.fault
 
 pub returns-clause-fault : goal.returns-clause-fault
-returns-clause-fault g c = IfErr-weaker c.finish.result _ _ (λ told each fed S. each fed (fed_to g c fed S)) c.finish.ensures.fault
+returns-clause-fault g c = IfErr-weaker c.finish.result _ _ (λ told each fed S. each tt fed (fed_to g c fed S)) c.finish.ensures.fault
 
 pub returns-clause-memory : goal.returns-clause-memory
-returns-clause-memory g c = IfErr-weaker c.finish.result _ _ (λ told each fed S. each fed (fed_to g c fed S)) c.finish.ensures.memory
+returns-clause-memory g c = IfErr-weaker c.finish.result _ _ (λ told each fed S. each tt fed (fed_to g c fed S)) c.finish.ensures.memory
 
 pub returns-clause-line : goal.returns-clause-line
-returns-clause-line g c = IfErr-weaker c.finish.result _ _ (λ told each fed S. each fed (fed_to g c fed S)) c.finish.ensures.line
+returns-clause-line g c = IfErr-weaker c.finish.result _ _ (λ told each fed S. each tt fed (fed_to g c fed S)) c.finish.ensures.line
 
 pub returns-clause-repeated : goal.returns-clause-repeated
 returns-clause-repeated g c = λ told is. c.finish.ensures.repeated told (ap (λ (k : LinesState). k.fault) c.self.view_is ∙ is)

@@ -6,16 +6,16 @@ use Rattle.race_script.proofs.ReadLemmas.{all_read}
 use Rattle.race_script.proofs.reader.ReaderGrammar.whole.Goals as goal
 
 pub into_program-requires-clause-header : goal.into_program-requires-clause-header
-into_program-requires-clause-header g c = (all_read c.args.self c.requires.stands.0 c.args.last.now (sym c.in-None.ensures)).header
+into_program-requires-clause-header g c = (all_read c.args.self c.requires.1.stands.0 c.args.last.now (sym c.in-None.ensures)).header
 
 pub into_program-requires-clause-whole : goal.into_program-requires-clause-whole
-into_program-requires-clause-whole g c = (all_read c.args.self c.requires.stands.0 c.args.last.now (sym c.in-None.ensures)).whole
+into_program-requires-clause-whole g c = (all_read c.args.self c.requires.1.stands.0 c.args.last.now (sym c.in-None.ensures)).whole
 
 pub returns-in-None : goal.returns-in-None
-returns-in-None g c = λ lines these.
+returns-in-None g c = λ _ lines these.
     let last = c.args.last.now in
     let known = lines_read c.args.self in
-    let all = all_read c.args.self c.requires.stands.0 last (sym c.in-None.ensures) in
+    let all = all_read c.args.self c.requires.1.stands.0 last (sym c.in-None.ensures) in
     let none : last ≡ [] = no_bytes last (end_empty known last (sym c.in-None.ensures)).0 in
     record {
       no_cause = ap (λ ls. end_cause ls last) these.1 ∙ sym c.in-None.ensures;

@@ -4,23 +4,23 @@ use Rattle.race_text.proofs.FedLemmas.{told_stays, told_of, told_behind, none_be
 use Rattle.race_text.proofs.fed.Fed.feed.Goals as goal
 
 pub returns-in-Some-clause-goes_on : goal.returns-in-Some-clause-goes_on
-returns-in-Some-clause-goes_on g c = λ fed S.
-    told_stays g.G.Grammar.causes g.G.Grammar.stands_for c.args.self.now c.args.piece.now fed c.in-Some.fault c.in-Some.is S
+returns-in-Some-clause-goes_on g c = λ k fed S.
+    told_stays g.G.Grammar.causes (g.G.Grammar.stands_for k) c.args.self.now c.args.piece.now fed c.in-Some.fault c.in-Some.is S
 
 pub returns-in-Some-clause-err : goal.returns-in-Some-clause-err
-returns-in-Some-clause-err g c = λ fed S.
-    told_of g.G.Grammar.causes g.G.Grammar.stands_for c.args.self.now (fed ++ c.args.piece.now) c.in-Some.fault c.in-Some.is
-    (told_stays g.G.Grammar.causes g.G.Grammar.stands_for c.args.self.now c.args.piece.now fed c.in-Some.fault c.in-Some.is S)
+returns-in-Some-clause-err g c = λ k fed S.
+    told_of g.G.Grammar.causes (g.G.Grammar.stands_for k) c.args.self.now (fed ++ c.args.piece.now) c.in-Some.fault c.in-Some.is
+    (told_stays g.G.Grammar.causes (g.G.Grammar.stands_for k) c.args.self.now c.args.piece.now fed c.in-Some.fault c.in-Some.is S)
 
 pub returns-in-Ok-clause-ok : goal.returns-in-Ok-clause-ok
-returns-in-Ok-clause-ok g c = λ fed S.
-    none_behind g.G.Grammar.causes g.G.Grammar.stands_for c.args.self.now (g.G.Grammar.stands_for c.take.new.self.reader) c.take.new.self.part.items
-    c.args.piece.now fed c.in-None.is c.in-Ok.ensures.between.unended c.in-Ok.ensures.taken S
+returns-in-Ok-clause-ok g c = λ k fed S.
+    none_behind g.G.Grammar.causes (g.G.Grammar.stands_for k) c.args.self.now (g.G.Grammar.stands_for k c.take.new.self.reader) c.take.new.self.part.items
+    c.args.piece.now fed c.in-None.is c.in-Ok.ensures.unended (c.in-Ok.ensures.taken k) S
 
 pub returns-in-Err-clause-err : goal.returns-in-Err-clause-err
-returns-in-Err-clause-err g c = λ fed S.
-    told_behind g.G.Grammar.causes g.G.Grammar.stands_for c.args.self.now c.args.piece.now fed c.in-Err.fault c.in-None.is c.in-Err.ensures.taken S
+returns-in-Err-clause-err g c = λ k fed S.
+    told_behind g.G.Grammar.causes (g.G.Grammar.stands_for k) c.args.self.now c.args.piece.now fed c.in-Err.fault c.in-None.is (c.in-Err.ensures.taken k) S
 
 pub returns-in-Err-clause-owed : goal.returns-in-Err-clause-owed
-returns-in-Err-clause-owed g c = λ fine none fed S.
-    owed_of g.G.Grammar.causes g.G.Grammar.stands_for c.args.self.now c.args.piece.now fed c.in-Err.fault fine none (c.in-Err.ensures.owed none) S
+returns-in-Err-clause-owed g c = λ fine none k fed S.
+    owed_of g.G.Grammar.causes (g.G.Grammar.stands_for k) c.args.self.now c.args.piece.now fed c.in-Err.fault fine none (c.in-Err.ensures.owed none k) S

@@ -5,9 +5,10 @@ use Rattle.race_text.proofs.fed.Lines.take_whole.Given as goal
 
 abbrev pub invariant-loop-self : goal.invariant-loop-self
 invariant-loop-self g l = record {
-  some : StandsForSome (g.G.Grammar.stands_for l.self.reader);
+  some : (k : g.G.Grammar.Known) → StandsForSome (g.G.Grammar.stands_for k l.fn.self.reader) → StandsForSome (g.G.Grammar.stands_for k l.self.reader);
   none : l.self.part.items ≡ [];
-  taken : TakesBytes g.G.Grammar.causes (g.G.Grammar.stands_for l.fn.self.reader) l.bytes (g.G.Grammar.stands_for l.self.reader) l.left;
+  taken : (k : g.G.Grammar.Known)
+      → TakesBytes g.G.Grammar.causes (g.G.Grammar.stands_for k l.fn.self.reader) l.bytes (g.G.Grammar.stands_for k l.self.reader) l.left;
 }
 
 abbrev pub decreases-loop-self : goal.decreases-loop-self

@@ -10,7 +10,7 @@ into_trace-requires-clause-header g c =
 
 pub returns-in-None : goal.returns-in-None
 unfolding text
-returns-in-None g c = λ lines these.
+returns-in-None g c = λ _ lines these.
     let known = lines_read c.args.self.has_header c.args.self.decls c.args.self.trace in
     let none : c.args.last.now ≡ [] = no_bytes c.args.last.now (end_empty known c.args.last.now (sym c.in-None.ensures)).0 in
     record {

@@ -18,7 +18,7 @@ func positions() (r []wire.Record) {
 }
 
 // What one goroutine alone does has no record until a second one comes: then the last write
-// and the last read have, where they were done.
+// and the last read have that repeat none, where they were done.
 func TestExclusive(t *testing.T) {
 	record(t)
 	exclusive = true
@@ -51,7 +51,7 @@ func TestExclusive(t *testing.T) {
 	one, other := uint32(1), uint32(2)
 	want := []wire.Record{
 		{Op: wire.Write, Site: 3, Value: started + 1, Goroutine: one},
-		{Op: wire.Read, Site: 5, Value: started + 2, Goroutine: one},
+		{Op: wire.Read, Site: 4, Value: started + 2, Goroutine: one}, // which that at site 5 repeats
 		{Op: wire.Read, Site: 6, Value: started + 3, Goroutine: other},
 	}
 	got := positions()

@@ -75,6 +75,7 @@ func init() {
 		os.Stderr.WriteString("gorec: no log: " + err.Error() + "\n")
 		os.Exit(3)
 	}
+	openShadow()
 	exclusive = os.Getenv("GOREC_ALL") != "1"
 	off, sealed = false, false
 }

@@ -53,6 +53,7 @@ func nextPart() {
 		awaitJudge()
 	}
 	lockAll()
+	awaitReaders()
 	ended, old := header, mapped
 	if err := openLog(logPath + "." + strconv.Itoa(int(part+1))); err != nil {
 		seal()
@@ -93,6 +94,7 @@ func forget() {
 	for i := range shards {
 		shards[i].clear()
 	}
+	clearShadow()
 	lastAtomic, pooled = map[unsafe.Pointer]uint32{}, map[unsafe.Pointer]uint32{}
 	lastStores, sentOut, ends = map[syncMapKey]uint32{}, nil, nil
 	for p, l := range locks {

@@ -148,3 +148,10 @@ func (v *variable) fits(o user, op wire.Op, bytes uint8) bool {
 func (v *variable) repeats(o user, bytes uint8) bool {
 	return v.owner == o.g.id+1 && v.write.at > o.g.behind && bytes&^v.writes == 0
 }
+
+// covers has the lock. It reports whether a read of these bytes would repeat what the goroutine has
+// read or written since its last step.
+func (v *variable) covers(o user, bytes uint8) bool {
+	return v.owner == o.g.id+1 &&
+		(v.write.at > o.g.behind && bytes&^v.writes == 0 || v.read.at > o.g.behind && bytes&^v.reads == 0)
+}

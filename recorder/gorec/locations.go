@@ -137,7 +137,9 @@ func (o user) readAt(sh *shard, i int, bits uint64, bytes uint8, offset uintptr)
 		l.known &^= bytes
 	}
 	l.show(sh.keys[i].p)
-	l.accessed(o, wire.Read, bytes)
+	if !l.covers(o, bytes) {
+		l.accessed(o, wire.Read, bytes)
+	}
 }
 
 // hold is that the location holds bits in these bytes.

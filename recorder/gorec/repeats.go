@@ -29,9 +29,25 @@ type repeats struct {
 	gone    int
 }
 
+// A repeat says what was accessed: so many bytes from p on, or these of the word at p.
 type repeat struct {
-	p           unsafe.Pointer
-	size, stamp uint32
+	p     unsafe.Pointer
+	stamp uint32
+	size  uint16
+	bytes uint8
+}
+
+// repeatOf is an access of so many bytes. One byte is told by its word, so that neighbours don't
+// drive one another out.
+func repeatOf(p unsafe.Pointer, size uintptr, stamp uint32) repeat {
+	switch {
+	case size == 1:
+		word, bytes, _ := wordAt(p, 1)
+		return repeat{p: word, stamp: stamp, bytes: bytes}
+	case size > 1<<16-1:
+		return repeat{} // no table has it
+	}
+	return repeat{p: p, stamp: stamp, size: uint16(size)}
 }
 
 const (
@@ -46,16 +62,16 @@ func (t *repeats) at(p unsafe.Pointer) *repeat {
 	return &t.entries[(h^h>>15)&uintptr(len(t.entries)-1)]
 }
 
-// has reports whether all that is accessed was, which begins at p.
-func (t *repeats) has(p unsafe.Pointer, size uintptr, stamp uint32) bool {
+// has reports whether all that is accessed was.
+func (t *repeats) has(r repeat) bool {
 	if len(t.entries) == 0 {
 		return false
 	}
-	e := t.at(p)
-	return e.p == p && uintptr(e.size) >= size && e.stamp == stamp
+	e := t.at(r.p)
+	return e.p == r.p && e.stamp == r.stamp && e.size >= r.size && r.bytes&^e.bytes == 0 && r.p != nil
 }
 
-func (t *repeats) put(p unsafe.Pointer, size uintptr, stamp uint32) {
+func (t *repeats) put(r repeat) {
 	if t.gone >= len(t.entries)/2 && len(t.entries) < mostRepeats {
 		size := 2 * len(t.entries)
 		if size == 0 {
@@ -63,11 +79,18 @@ func (t *repeats) put(p unsafe.Pointer, size uintptr, stamp uint32) {
 		}
 		*t = repeats{entries: make([]repeat, size)}
 	}
-	e := t.at(p)
-	if e.p != nil && e.p != p && e.stamp == stamp {
+	e := t.at(r.p)
+	switch {
+	case e.stamp != r.stamp:
+	case e.p == r.p:
+		r.bytes |= e.bytes
+		if e.size > r.size {
+			r.size = e.size
+		}
+	case e.p != nil:
 		t.gone++
 	}
-	*e = repeat{p, uint32(size), stamp}
+	*e = r
 }
 
 func (t *repeats) drop(p unsafe.Pointer) {
@@ -79,16 +102,18 @@ func (t *repeats) drop(p unsafe.Pointer) {
 // hasRead reports whether what begins at p was read or written with a record, which stands for a
 // read now too. Otherwise this one is going to have it.
 func (g *G) hasRead(p unsafe.Pointer, size uintptr) bool {
-	stamp := g.epoch + atomic.LoadUint32(&era)
-	if g.reads.has(p, size, stamp) {
+	r := repeatOf(p, size, g.epoch+atomic.LoadUint32(&era))
+	if g.reads.has(r) {
 		return true
 	}
-	g.reads.put(p, size, stamp)
+	g.reads.put(r)
 	return false
 }
 
 // hasLeave reports whether a write of what begins at p needs no record and no lock.
-func (g *G) hasLeave(p unsafe.Pointer, size uintptr) bool { return g.writes.has(p, size, g.stamp()) }
+func (g *G) hasLeave(p unsafe.Pointer, size uintptr) bool {
+	return g.writes.has(repeatOf(p, size, g.stamp()))
+}
 
 // stamp is the sum of numbers that only grow, so it changes with each of them.
 func (g *G) stamp() uint32 {
@@ -104,7 +129,7 @@ func (g *G) giveLeave(p unsafe.Pointer, size uintptr) {
 	i := sh.locate(p, wire.VarMemory)
 	l := &sh.entries[i]
 	sh.keys[i].repeater, l.stamp, l.known = g, g.stamp(), 0
-	g.writes.put(p, size, l.stamp)
+	g.writes.put(repeatOf(p, size, l.stamp))
 }
 
 // mayRepeat has the lock: a goroutine may be repeating a write of the location.

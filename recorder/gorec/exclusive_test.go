@@ -28,21 +28,15 @@ func TestExclusive(t *testing.T) {
 	}
 	x, ts := new(int), newTurns(t, 2)
 	started := uint64(steps) // the goroutines
-	step := func() {
-		g := current(&sites[0])
-		mu.Lock()
-		g.note(wire.Lock, 0, &sites[0])
-		mu.Unlock()
-	}
 	ts.do(0, func() {
 		To(x, &sites[1]).Set(1)
 		Read(x, &sites[2])
-		step()
+		step(0)
 		To(x, &sites[3]).Set(2)
-		step()
+		step(0)
 		Read(x, &sites[4])
 		Read(x, &sites[5])
-		step()
+		step(0)
 	})
 	if got := positions(); len(got) != 0 {
 		t.Errorf("alone: %v", got)

@@ -15,6 +15,9 @@ func record(t *testing.T) (log func() string) {
 	t.Helper()
 	exclusive = false
 	header, records = &wire.Header{}, make([]wire.Record, 1<<12)
+	if shadow == nil {
+		openShadow()
+	}
 	stepped, mainGoroutine.window = window{}, window{}
 	off, sealed, live = false, false, true
 	largest := largestWindow
@@ -75,6 +78,15 @@ func (ts turns) do(i int, f func()) {
 	<-ts[i]
 }
 
+// step is an operation that orders.
+func step(site uint32) {
+	s := &Site{ID: site}
+	g := current(s)
+	mu.Lock()
+	g.note(wire.Lock, 0, s)
+	mu.Unlock()
+}
+
 func TestRepeats(t *testing.T) {
 	const one, other = 0, 1
 	sites := make([]Site, 10)
@@ -91,14 +103,7 @@ func TestRepeats(t *testing.T) {
 		})
 	}
 	read := func(i, site int) { ts.do(i, func() { Read(x, &sites[site]) }) }
-	step := func(i int) {
-		ts.do(i, func() {
-			g := current(&sites[0])
-			mu.Lock()
-			g.note(wire.Lock, 0, &sites[0])
-			mu.Unlock()
-		})
-	}
+	step := func(i int) { ts.do(i, func() { step(0) }) }
 	unseen := func() { *x += 1000 }
 	for _, c := range []struct {
 		name string

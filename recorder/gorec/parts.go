@@ -74,6 +74,7 @@ func nextPart() {
 	forget()
 	atomic.StoreUint32(&full, 0)
 	unlockAll()
+	delete(goingOn, earlier)
 	earlier = newGoroutine()
 	mainGoroutine.step(wire.Record{Op: wire.Go, Kind: uint8(wire.GoEarlier), Other: earlier.id})
 }

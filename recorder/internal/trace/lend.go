@@ -203,7 +203,8 @@ func (l *lender) follow(r *wire.Record) {
 		l.join(r.Goroutine, d)
 		l.join(r.Other, sender)
 	case wire.Close, wire.OnceEnd, wire.Release:
-		l.pairing(r.Object).last = c.copy()
+		p := l.pairing(r.Object)
+		p.last = append(p.last[:0], c...)
 	case wire.ReceiveClosed, wire.OnceDone, wire.Acquire, wire.ReadLock, wire.TryReadLock:
 		l.join(r.Goroutine, l.pairing(r.Object).last)
 	case wire.Lock, wire.TryLock:
@@ -213,7 +214,7 @@ func (l *lender) follow(r *wire.Record) {
 		p.readers = nil
 	case wire.Unlock:
 		p := l.pairing(r.Object)
-		p.last = c.copy()
+		p.last = append(p.last[:0], c...)
 		p.all = p.all.join(c)
 	case wire.ReadUnlock:
 		p := l.pairing(r.Object)

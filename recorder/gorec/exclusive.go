@@ -113,8 +113,8 @@ func (v *variable) accessed(o user, op wire.Op, bytes uint8) {
 	o.g.does()
 }
 
-// does notes that the goroutine has read or written a variable. It stands behind the access,
-// since others set the note back in front of a release.
+// does notes that the goroutine has read or written a variable. It comes after the access,
+// since others set the note back before a release.
 func (g *G) does() {
 	if atomic.LoadUint32(&g.didMore) == 0 {
 		atomic.StoreUint32(&g.didMore, 1)

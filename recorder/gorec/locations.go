@@ -149,7 +149,7 @@ func (l *location) hold(bits uint64, bytes uint8) {
 	l.known |= bytes
 }
 
-// wrote has the locks, and the new bits are there. A write behind g's last one, with nothing
+// wrote has the locks, and the new bits are there. A write after g's last one, with nothing
 // between them that orders g before others, races with whatever that one races with. It has no
 // record; repeats says so.
 func (o user) wrote(p unsafe.Pointer, size, offset uintptr) (repeats bool) {

@@ -37,7 +37,7 @@ type repeat struct {
 	bytes uint8
 }
 
-// repeatOf is an access of so many bytes. One byte is told by its word, so that neighbours don't
+// repeatOf is an access of so many bytes. One byte is found by its word, so that neighbours don't
 // drive one another out.
 func repeatOf(p unsafe.Pointer, size uintptr, stamp uint32) repeat {
 	switch {

@@ -114,10 +114,10 @@ func TestRepeats(t *testing.T) {
 		{"behind a step", func() { write(one, 1, 5); step(one); write(one, 1, 5); read(other, 2) }, "w1 - w1 r2"},
 		{"another's write", func() { write(one, 1, 5); write(other, 2, 5); write(one, 1, 5); step(other); read(other, 3) }, "w1 w2 w1 - r3"},
 		{"another place", func() { write(one, 1, 5); write(one, 2, 1); write(one, 1, 1); read(other, 3) }, "w1 r3"},
-		{"a read behind a write", func() { write(one, 1, 1); read(one, 2); step(one); read(one, 2); write(one, 1, 1) }, "w1 - r2 w1"},
+		{"a read after a write", func() { write(one, 1, 1); read(one, 2); step(one); read(one, 2); write(one, 1, 1) }, "w1 - r2 w1"},
 		{"begun before another's", func() { write(one, 1, 5); write(other, 2, 1); unseen(); step(other); read(other, 3) }, "w1 w2 - r3"},
 		{"unseen", func() { write(one, 1, 1); unseen(); read(other, 2) }, "w1 ? r2"},
-		{"unseen behind", func() {
+		{"unseen after", func() {
 			write(one, 1, 5)
 			step(one)
 			read(other, 2)
@@ -125,7 +125,7 @@ func TestRepeats(t *testing.T) {
 			step(other)
 			read(other, 3)
 		}, "w1 - r2 - ? r3"},
-		{"unseen behind a write", func() {
+		{"unseen after a write", func() {
 			write(one, 1, 5)
 			write(other, 2, 1)
 			step(one)

@@ -93,7 +93,7 @@ func (o user) readsShown(p unsafe.Pointer, size uintptr) bool {
 		o.put(wire.Read, uint32(shown>>32), bytes)
 		g.does()
 	}
-	g.unlocked = 0 // behind the record, since the processor writes in order
+	g.unlocked = 0 // after the record, since the processor writes in order
 	return recorded
 }
 

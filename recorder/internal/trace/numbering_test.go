@@ -6,7 +6,7 @@ import (
 	"gorace.local/recorder/wire"
 )
 
-// A log behind others has numbers of its own, those of goroutines too, and main stays main.
+// A log after others has numbers of its own, those of goroutines too, and main stays main.
 func TestRenumber(t *testing.T) {
 	records := []wire.Record{
 		{Op: wire.Go, Other: 900},

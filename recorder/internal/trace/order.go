@@ -41,7 +41,7 @@ func (l reading) each(f func(r *wire.Record)) {
 type order struct {
 	divided divided
 	steps   int
-	within  []uint64 // a bit for each number of steps behind which a case of a default follows
+	within  []uint64 // a bit for each number of steps after which a case of a default follows
 	before  []uint32 // of each place: how many records that say where they stand have one before it
 }
 
@@ -71,19 +71,19 @@ func newOrder(l reading) *order {
 	return o
 }
 
-// place is that of a record that says where it stands. A case stands right behind what it is a
+// place is that of a record that says where it stands. A case stands right after what it is a
 // case of.
 func (o *order) place(r *wire.Record) int {
-	behind := o.steps
-	if r.Value < uint64(behind) {
-		for behind = int(r.Value); behind < o.steps && o.within[behind>>6]>>(behind&63)&1 != 0; {
-			behind++
+	after := o.steps
+	if r.Value < uint64(after) {
+		for after = int(r.Value); after < o.steps && o.within[after>>6]>>(after&63)&1 != 0; {
+			after++
 		}
 	}
 	if r.Op == wire.DeclareVar {
-		return 2 * behind
+		return 2 * after
 	}
-	return 2*behind + 1
+	return 2*after + 1
 }
 
 // len is how many records there are in the order.

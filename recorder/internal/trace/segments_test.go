@@ -142,7 +142,7 @@ write main x_4 1 a.go:1
 read g2 x_4 1 a.go:2
 `
 	if b.String() != want {
-		t.Errorf("behind %d records of the state:\n%s", len(next.state), b.String())
+		t.Errorf("after %d records of the state:\n%s", len(next.state), b.String())
 	}
 }
 

@@ -59,7 +59,7 @@ func (s *stretch) at(i int) *wire.Record {
 	return &s.log[s.from+i-len(s.state)]
 }
 
-// position is where in the log a record of the stretch stands that is behind its state.
+// position is where in the log a record of the stretch stands that comes after its state.
 func (s *stretch) position(i int) int { return s.from + i - len(s.state) }
 
 // inherited is the declaration of an object by an earlier segment, nil for none.

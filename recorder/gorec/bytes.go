@@ -92,7 +92,7 @@ func (sh *shard) isApart(i int, o user, op wire.Op, bytes uint8) bool {
 	if l.apart || l.id != 0 || l.owner != o.g.id+1 || l.fits(o, op, bytes) {
 		return l.apart
 	}
-	if op == wire.Write && l.repeats(o, bytes) {
+	if op == wire.Write && l.repeats(o, bytes) || op == wire.Read && l.covers(o, bytes) {
 		return false
 	}
 	l.apart = true

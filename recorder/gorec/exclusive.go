@@ -110,8 +110,14 @@ func (v *variable) accessed(o user, op wire.Op, bytes uint8) {
 		}
 		o.put(op, v.id, bytes)
 	}
-	if atomic.LoadUint32(&o.g.didMore) == 0 { // behind the access, since others set it back in front of a release
-		atomic.StoreUint32(&o.g.didMore, 1)
+	o.g.does()
+}
+
+// does notes that the goroutine has read or written a variable. It comes after the access,
+// since others set the note back before a release.
+func (g *G) does() {
+	if atomic.LoadUint32(&g.didMore) == 0 {
+		atomic.StoreUint32(&g.didMore, 1)
 	}
 }
 
@@ -140,5 +146,12 @@ func (v *variable) fits(o user, op wire.Op, bytes uint8) bool {
 // repeats has the lock. It reports whether a write of these bytes would repeat the goroutine's
 // last one, with nothing between the two that orders it before others.
 func (v *variable) repeats(o user, bytes uint8) bool {
-	return v.owner == o.g.id+1 && v.write.site == o.s.ID && v.write.at > o.g.behind && bytes&^v.writes == 0
+	return v.owner == o.g.id+1 && v.write.at > o.g.behind && bytes&^v.writes == 0
+}
+
+// covers has the lock. It reports whether a read of these bytes would repeat what the goroutine has
+// read or written since its last step.
+func (v *variable) covers(o user, bytes uint8) bool {
+	return v.owner == o.g.id+1 &&
+		(v.write.at > o.g.behind && bytes&^v.writes == 0 || v.read.at > o.g.behind && bytes&^v.reads == 0)
 }

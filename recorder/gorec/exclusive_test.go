@@ -18,7 +18,7 @@ func positions() (r []wire.Record) {
 }
 
 // What one goroutine alone does has no record until a second one comes: then the last write
-// and the last read have, where they were done.
+// and the last read have that repeat none, where they were done.
 func TestExclusive(t *testing.T) {
 	record(t)
 	exclusive = true
@@ -28,21 +28,15 @@ func TestExclusive(t *testing.T) {
 	}
 	x, ts := new(int), newTurns(t, 2)
 	started := uint64(steps) // the goroutines
-	step := func() {
-		g := current(&sites[0])
-		mu.Lock()
-		g.note(wire.Lock, 0, &sites[0])
-		mu.Unlock()
-	}
 	ts.do(0, func() {
 		To(x, &sites[1]).Set(1)
 		Read(x, &sites[2])
-		step()
+		step(0)
 		To(x, &sites[3]).Set(2)
-		step()
+		step(0)
 		Read(x, &sites[4])
 		Read(x, &sites[5])
-		step()
+		step(0)
 	})
 	if got := positions(); len(got) != 0 {
 		t.Errorf("alone: %v", got)
@@ -51,7 +45,7 @@ func TestExclusive(t *testing.T) {
 	one, other := uint32(1), uint32(2)
 	want := []wire.Record{
 		{Op: wire.Write, Site: 3, Value: started + 1, Goroutine: one},
-		{Op: wire.Read, Site: 5, Value: started + 2, Goroutine: one},
+		{Op: wire.Read, Site: 4, Value: started + 2, Goroutine: one}, // which that at site 5 repeats
 		{Op: wire.Read, Site: 6, Value: started + 3, Goroutine: other},
 	}
 	got := positions()

@@ -92,31 +92,18 @@ func (sh *shard) forget(unused uint8) {
 		}
 	}
 	before := sh.met
-	for i := 0; i < len(sh.keys); {
+	for i := range sh.keys {
 		if sh.keys[i].p != nil && sh.mayGo(i, unused) {
-			sh.remove(i) // and look at what came in its place
-		} else {
-			i++
+			sh.keys[i] = key{}
+			sh.met--
 		}
 	}
+	sh.resize(len(sh.keys))
 	gone := uint32(before - sh.met)
 	all := atomic.AddUint32(&header.Forgotten, gone)
 	if each := uint32(firstLimit() * shardCount / ages / 2); all/each != (all-gone)/each {
 		atomic.AddUint32(&era, 1)
 	}
-}
-
-// remove has the lock. What stands behind an entry since it was there moves up.
-func (sh *shard) remove(i int) {
-	mask := len(sh.keys) - 1
-	for j := (i + 1) & mask; sh.keys[j].p != nil; j = (j + 1) & mask {
-		if home := int(hash(sh.keys[j].p)) & mask; (j-home)&mask >= (j-i)&mask {
-			sh.keys[i], sh.entries[i] = sh.keys[j], sh.entries[j]
-			i = j
-		}
-	}
-	sh.keys[i], sh.entries[i] = key{}, location{}
-	sh.met--
 }
 
 func (sh *shard) mayGo(i int, unused uint8) bool {

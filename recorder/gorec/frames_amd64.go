@@ -8,3 +8,6 @@ const hasFramePointers = true
 // framePointer is that of who calls it, and stackTop the end of the goroutine's stack.
 func framePointer() unsafe.Pointer
 func stackTop() uintptr
+
+// writesInOrder reports whether others see what a processor writes in the order in which it does.
+const writesInOrder = true

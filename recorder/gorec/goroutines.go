@@ -14,22 +14,23 @@ import (
 // labels, for a profiler that reads them.
 type G struct {
 	tag
-	g      uintptr
-	id     uint32
-	over   bool
-	random uint32
-	epoch  uint32 // grows with each operation that may order something
-	behind uint32 // the steps up to its last such operation
-	part   uint32 // the last one that it is in
-	tables uint32 // the part that reads and writes are of
-	site   uint32 // where it was started
-	stack  uint32
-	window window
-	reads  repeats
-	writes repeats
-	ended  uint32        // leaves to repeat a write that others ended
-	wake   chan struct{} // lets it go on where it waits for others
-	waiter waiter
+	g        uintptr
+	id       uint32
+	over     bool
+	random   uint32
+	epoch    uint32 // grows with each operation that may order something
+	behind   uint32 // the steps up to its last such operation
+	part     uint32 // the last one that it is in
+	tables   uint32 // the part that reads and writes are of
+	site     uint32 // where it was started
+	stack    uint32
+	window   window
+	reads    repeats
+	writes   repeats
+	ended    uint32        // leaves to repeat a write that others ended
+	unlocked uint32        // 1: it reads without a lock
+	wake     chan struct{} // lets it go on where it waits for others
+	waiter   waiter
 
 	// a lone send and a lone receive that wait
 	ownSend, ownReceive communication
@@ -61,6 +62,7 @@ func getg() uintptr
 var (
 	goroutines    uint32
 	mainGoroutine = &G{wake: make(chan struct{}, 2)}
+	goingOn       = map[*G]struct{}{mainGoroutine: {}} // the goroutines that haven't ended
 	nowhere       = &Site{}
 )
 
@@ -144,6 +146,7 @@ func (t *tag) ended() {
 	begin()
 	defer mu.Unlock()
 	delete(adopted, t.of)
+	delete(goingOn, t.of)
 	if t.of.part == part {
 		t.of.note(wire.Exit, 0, nowhere)
 	}
@@ -157,6 +160,7 @@ func newGoroutine() *G {
 	live = !sealed
 	g := &G{id: goroutines, part: part, tables: part, random: seed*2654435761 + goroutines*40503 | 1, wake: make(chan struct{}, 2)}
 	g.of = g
+	goingOn[g] = struct{}{}
 	return g
 }
 
@@ -196,6 +200,7 @@ func (g *G) exit(s *Site) {
 	begin()
 	g.note(wire.Exit, 0, s)
 	g.over = true
+	delete(goingOn, g)
 	mu.Unlock()
 	g.reads, g.writes = repeats{}, repeats{}
 }

@@ -136,7 +136,10 @@ func (o user) readAt(sh *shard, i int, bits uint64, bytes uint8, offset uintptr)
 	if sh.keys[i].mayRepeat(l) {
 		l.known &^= bytes
 	}
-	l.accessed(o, wire.Read, bytes)
+	l.show(sh.keys[i].p)
+	if !l.covers(o, bytes) {
+		l.accessed(o, wire.Read, bytes)
+	}
 }
 
 // hold is that the location holds bits in these bytes.
@@ -146,9 +149,9 @@ func (l *location) hold(bits uint64, bytes uint8) {
 	l.known |= bytes
 }
 
-// wrote has the locks, and the new bits are there. A write at the same place as g's last one,
-// with nothing between them that orders g before others, races with whatever that one races
-// with. It has no record; repeats says so.
+// wrote has the locks, and the new bits are there. A write after g's last one, with nothing
+// between them that orders g before others, races with whatever that one races with. It has no
+// record; repeats says so.
 func (o user) wrote(p unsafe.Pointer, size, offset uintptr) (repeats bool) {
 	if size == 1 {
 		o.wroteBytes(p, 1, offset)
@@ -171,6 +174,7 @@ func (o user) wroteAt(sh *shard, i int, bits uint64, bytes uint8, offset uintptr
 	l.hold(bits, bytes)
 	sh.keys[i].endLeave(l, o.g)
 	l.isOthers(o, l.kind&^inWord, offset)
+	l.show(sh.keys[i].p)
 	l.accessed(o, wire.Write, bytes)
 	return false
 }

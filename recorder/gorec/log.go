@@ -8,7 +8,7 @@
 // (shards.go). So the records of steps stand in an order in which these did happen one after
 // another, and each access says behind how many of them it stands. What can wait never waits
 // with a lock held. Accesses that repeat others and have no record are done without one
-// (repeats.go).
+// (repeats.go), and most reads of what several goroutines use (shadow.go).
 package gorec
 
 import (
@@ -75,6 +75,7 @@ func init() {
 		os.Stderr.WriteString("gorec: no log: " + err.Error() + "\n")
 		os.Exit(3)
 	}
+	openShadow()
 	exclusive = os.Getenv("GOREC_ALL") != "1"
 	off, sealed = false, false
 }

@@ -62,7 +62,7 @@ func (x Mapping[K, V]) Lookup(k K) (v V, ok bool) {
 		return v, ok
 	}
 	o := user{g: current(x.s), s: x.s}
-	repeats := o.g.hasRead(x.pointer(), x.s)
+	repeats := o.g.hasRead(x.pointer(), 1)
 	if !repeats {
 		o = o.g.at(x.s)
 	}

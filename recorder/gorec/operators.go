@@ -1,5 +1,7 @@
 package gorec
 
+import "unsafe"
+
 type integer interface {
 	~int | ~int8 | ~int16 | ~int32 | ~int64 | ~uint | ~uint8 | ~uint16 | ~uint32 | ~uint64 | ~uintptr
 }
@@ -65,22 +67,58 @@ type at[T any] struct {
 	s *Site
 }
 
+// A change reads and writes under one lock, if it needs any. What is done in between doesn't panic.
+type change struct {
+	o user // whose g is nil where no lock is needed
+	h held
+}
+
+func beginChange[T any](p *T, s *Site) (c change) {
+	_ = *p // nil panics without the lock
+	if alone() {
+		return c
+	}
+	g := current(s)
+	repeats := g.hasRead(unsafe.Pointer(p), unsafe.Sizeof(*p))
+	if repeats && g.hasLeave(unsafe.Pointer(p), unsafe.Sizeof(*p)) {
+		return c
+	}
+	c = change{g.at(s), g.hold(unsafe.Pointer(p), unsafe.Sizeof(*p))}
+	if !repeats {
+		readAll(c.o, p)
+	}
+	return c
+}
+
+func endChange[T any](p *T, c change) {
+	if c.o.g == nil {
+		return
+	}
+	if wroteAll(c.o, p) {
+		c.o.g.giveLeave(unsafe.Pointer(p), unsafe.Sizeof(*p))
+	}
+	c.h.release()
+}
+
 // By does it, with the right side.
 func (x AddAt[T]) By(v T) {
-	old, by := read(x.p, x.s)
-	setBy(x.p, old+v, x.s, by)
+	c := beginChange(x.p, x.s)
+	*x.p += v
+	endChange(x.p, c)
 }
 
 // By does it, with the right side.
 func (x SubAt[T]) By(v T) {
-	old, by := read(x.p, x.s)
-	setBy(x.p, old-v, x.s, by)
+	c := beginChange(x.p, x.s)
+	*x.p -= v
+	endChange(x.p, c)
 }
 
 // By does it, with the right side.
 func (x MulAt[T]) By(v T) {
-	old, by := read(x.p, x.s)
-	setBy(x.p, old*v, x.s, by)
+	c := beginChange(x.p, x.s)
+	*x.p *= v
+	endChange(x.p, c)
 }
 
 // By does it, with the right side.
@@ -97,36 +135,42 @@ func (x RemAt[T]) By(v T) {
 
 // By does it, with the right side.
 func (x AndAt[T]) By(v T) {
-	old, by := read(x.p, x.s)
-	setBy(x.p, old&v, x.s, by)
+	c := beginChange(x.p, x.s)
+	*x.p &= v
+	endChange(x.p, c)
 }
 
 // By does it, with the right side.
 func (x OrAt[T]) By(v T) {
-	old, by := read(x.p, x.s)
-	setBy(x.p, old|v, x.s, by)
+	c := beginChange(x.p, x.s)
+	*x.p |= v
+	endChange(x.p, c)
 }
 
 // By does it, with the right side.
 func (x XorAt[T]) By(v T) {
-	old, by := read(x.p, x.s)
-	setBy(x.p, old^v, x.s, by)
+	c := beginChange(x.p, x.s)
+	*x.p ^= v
+	endChange(x.p, c)
 }
 
 // By does it, with the right side.
 func (x AndNotAt[T]) By(v T) {
-	old, by := read(x.p, x.s)
-	setBy(x.p, old&^v, x.s, by)
+	c := beginChange(x.p, x.s)
+	*x.p &^= v
+	endChange(x.p, c)
 }
 
 // Increment is x++.
 func Increment[T number](p *T, s *Site) {
-	old, by := read(p, s)
-	setBy(p, old+1, s, by)
+	c := beginChange(p, s)
+	*p++
+	endChange(p, c)
 }
 
 // Decrement is x--.
 func Decrement[T number](p *T, s *Site) {
-	old, by := read(p, s)
-	setBy(p, old-1, s, by)
+	c := beginChange(p, s)
+	*p--
+	endChange(p, c)
 }

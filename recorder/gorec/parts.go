@@ -23,8 +23,8 @@ var (
 	partRecords int    // of a part, or 0 where the run has one log
 	part        uint32 // the number of the log, read without the lock too
 	logPath     string
-	previous    *wire.Header // of the part before, until it is judged
-	earlier     *G           // who starts what goes on
+	previous    []byte // the part before, until it is judged
+	earlier     *G     // who starts what goes on
 )
 
 // setParts is how many records a part has; "" is that there is one log.
@@ -53,7 +53,8 @@ func nextPart() {
 		awaitJudge()
 	}
 	lockAll()
-	ended := header
+	awaitReaders()
+	ended, old := header, mapped
 	if err := openLog(logPath + "." + strconv.Itoa(int(part+1))); err != nil {
 		seal()
 		unlockAll()
@@ -65,13 +66,15 @@ func nextPart() {
 		why = wire.AfterRecords
 	}
 	atomic.StoreUint32(&ended.Next, uint32(why))
-	previous = ended
+	previous = old
+	syscall.Madvise(old, syscall.MADV_DONTNEED)
 	atomic.StoreUint32(&steps, 0)
 	atomic.AddUint32(&part, 1)
 	atomic.AddUint32(&era, 1)
 	forget()
 	atomic.StoreUint32(&full, 0)
 	unlockAll()
+	delete(goingOn, earlier)
 	earlier = newGoroutine()
 	mainGoroutine.step(wire.Record{Op: wire.Go, Kind: uint8(wire.GoEarlier), Other: earlier.id})
 }
@@ -79,10 +82,11 @@ func nextPart() {
 // awaitJudge waits until the last part was judged, unless nobody is there any more to do it.
 func awaitJudge() {
 	judge := os.Getppid()
-	for atomic.LoadUint32(&previous.Judged) == 0 && os.Getppid() == judge {
+	judged := &(*wire.Header)(unsafe.Pointer(&previous[0])).Judged
+	for atomic.LoadUint32(judged) == 0 && os.Getppid() == judge {
 		time.Sleep(2 * time.Millisecond)
 	}
-	syscall.Munmap(unsafe.Slice((*byte)(unsafe.Pointer(previous)), (1+len(records))*wire.Size))
+	syscall.Munmap(previous)
 	previous = nil
 }
 
@@ -91,6 +95,7 @@ func forget() {
 	for i := range shards {
 		shards[i].clear()
 	}
+	clearShadow()
 	lastAtomic, pooled = map[unsafe.Pointer]uint32{}, map[unsafe.Pointer]uint32{}
 	lastStores, sentOut, ends = map[syncMapKey]uint32{}, nil, nil
 	for p, l := range locks {

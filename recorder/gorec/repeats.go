@@ -7,13 +7,14 @@ import (
 	"gorace.local/recorder/wire"
 )
 
-// An access that repeats one of the same goroutine at the same place, with nothing between
-// them that orders the goroutine before others, races with what that one races with. It has
-// no record, and takes no lock where the goroutine finds it in a table of its own.
+// An access that repeats one of the same goroutine, with nothing between them that orders the
+// goroutine before others, races with what that one races with, and a read with nothing that a
+// write there doesn't race with. It has no record, wherever in the source it stands, and takes no
+// lock where the goroutine finds it in a table of its own.
 //
-// A read is there once it has a record. A write is there once it was repeated under the lock:
-// then the goroutine has the leave to repeat it further. The leave ends with the goroutine's
-// next operation that may order something, and with the next record of a write of the
+// A read is there once it, or a write, has a record. A write is there once it was repeated under
+// the lock: then the goroutine has the leave to repeat it further. The leave ends with the
+// goroutine's next operation that may order something, and with the next record of a write of the
 // location, so one goroutine at most has it. Until then, and until the next read, it isn't
 // known what the location holds.
 
@@ -28,9 +29,25 @@ type repeats struct {
 	gone    int
 }
 
+// A repeat says what was accessed: so many bytes from p on, or these of the word at p.
 type repeat struct {
-	p           unsafe.Pointer
-	site, stamp uint32
+	p     unsafe.Pointer
+	stamp uint32
+	size  uint16
+	bytes uint8
+}
+
+// repeatOf is an access of so many bytes. One byte is found by its word, so that neighbours don't
+// drive one another out.
+func repeatOf(p unsafe.Pointer, size uintptr, stamp uint32) repeat {
+	switch {
+	case size == 1:
+		word, bytes, _ := wordAt(p, 1)
+		return repeat{p: word, stamp: stamp, bytes: bytes}
+	case size > 1<<16-1:
+		return repeat{} // no table has it
+	}
+	return repeat{p: p, stamp: stamp, size: uint16(size)}
 }
 
 const (
@@ -38,22 +55,23 @@ const (
 	mostRepeats   = 1 << 17
 )
 
-// at is where an access of p at a site stands in a table that isn't empty. Neighbours in memory stand
-// beside one another, and what is used at two places has two.
-func (t *repeats) at(p unsafe.Pointer, site uint32) *repeat {
-	h := uintptr(p)>>3 + uintptr(site)*0x9e3779b1
+// at is where an access of p stands in a table that isn't empty. Neighbours in memory stand beside
+// one another.
+func (t *repeats) at(p unsafe.Pointer) *repeat {
+	h := uintptr(p) >> 3
 	return &t.entries[(h^h>>15)&uintptr(len(t.entries)-1)]
 }
 
-func (t *repeats) has(p unsafe.Pointer, s *Site, stamp uint32) bool {
+// has reports whether all that is accessed was.
+func (t *repeats) has(r repeat) bool {
 	if len(t.entries) == 0 {
 		return false
 	}
-	e := t.at(p, s.ID)
-	return e.p == p && e.site == s.ID && e.stamp == stamp
+	e := t.at(r.p)
+	return e.p == r.p && e.stamp == r.stamp && e.size >= r.size && r.bytes&^e.bytes == 0 && r.p != nil
 }
 
-func (t *repeats) put(p unsafe.Pointer, s *Site, stamp uint32) {
+func (t *repeats) put(r repeat) {
 	if t.gone >= len(t.entries)/2 && len(t.entries) < mostRepeats {
 		size := 2 * len(t.entries)
 		if size == 0 {
@@ -61,51 +79,57 @@ func (t *repeats) put(p unsafe.Pointer, s *Site, stamp uint32) {
 		}
 		*t = repeats{entries: make([]repeat, size)}
 	}
-	e := t.at(p, s.ID)
-	if e.p != nil && e.p != p && e.stamp == stamp {
+	e := t.at(r.p)
+	switch {
+	case e.stamp != r.stamp:
+	case e.p == r.p:
+		r.bytes |= e.bytes
+		if e.size > r.size {
+			r.size = e.size
+		}
+	case e.p != nil:
 		t.gone++
 	}
-	*e = repeat{p, s.ID, stamp}
+	*e = r
 }
 
-func (t *repeats) drop(p unsafe.Pointer, site uint32) {
-	if e := t.at(p, site); e.p == p {
+func (t *repeats) drop(p unsafe.Pointer) {
+	if e := t.at(p); e.p == p {
 		e.p = nil
 	}
 }
 
-// hasRead reports whether a read of p at s has a record, which stands for this one too. Otherwise
-// this one is going to have it.
-func (g *G) hasRead(p unsafe.Pointer, s *Site) bool {
-	if s.generic {
-		return false
-	}
-	stamp := g.epoch + atomic.LoadUint32(&era)
-	if g.reads.has(p, s, stamp) {
+// hasRead reports whether what begins at p was read or written with a record, which stands for a
+// read now too. Otherwise this one is going to have it.
+func (g *G) hasRead(p unsafe.Pointer, size uintptr) bool {
+	r := repeatOf(p, size, g.epoch+atomic.LoadUint32(&era))
+	if g.reads.has(r) {
 		return true
 	}
-	g.reads.put(p, s, stamp)
+	g.reads.put(r)
 	return false
 }
 
-// hasLeave reports whether a write of p at s needs no record and no lock.
-func (g *G) hasLeave(p unsafe.Pointer, s *Site) bool { return g.writes.has(p, s, g.stamp()) }
+// hasLeave reports whether a write of what begins at p needs no record and no lock.
+func (g *G) hasLeave(p unsafe.Pointer, size uintptr) bool {
+	return g.writes.has(repeatOf(p, size, g.stamp()))
+}
 
 // stamp is the sum of numbers that only grow, so it changes with each of them.
 func (g *G) stamp() uint32 {
 	return atomic.LoadUint32(&g.epoch) + atomic.LoadUint32(&g.ended) + atomic.LoadUint32(&era)
 }
 
-// giveLeave has the lock of p: g has repeated its write of the location at s.
-func (g *G) giveLeave(p unsafe.Pointer, s *Site) {
-	if s.generic || atomic.LoadInt32(&filling) > 0 {
+// giveLeave has the lock of p: g has repeated its write of the location.
+func (g *G) giveLeave(p unsafe.Pointer, size uintptr) {
+	if atomic.LoadInt32(&filling) > 0 {
 		return
 	}
 	sh := shardOf(p)
 	i := sh.locate(p, wire.VarMemory)
 	l := &sh.entries[i]
 	sh.keys[i].repeater, l.stamp, l.known = g, g.stamp(), 0
-	g.writes.put(p, s, l.stamp)
+	g.writes.put(repeatOf(p, size, l.stamp))
 }
 
 // mayRepeat has the lock: a goroutine may be repeating a write of the location.
@@ -119,7 +143,7 @@ func (k *key) endLeave(l *location, g *G) {
 	}
 	if k.mayRepeat(l) {
 		if k.repeater == g && l.write.site != 0 {
-			g.writes.drop(k.p, l.write.site)
+			g.writes.drop(k.p)
 		} else {
 			atomic.AddUint32(&k.repeater.ended, 1)
 			l.known = 0

@@ -15,6 +15,9 @@ func record(t *testing.T) (log func() string) {
 	t.Helper()
 	exclusive = false
 	header, records = &wire.Header{}, make([]wire.Record, 1<<12)
+	if shadow == nil {
+		openShadow()
+	}
 	stepped, mainGoroutine.window = window{}, window{}
 	off, sealed, live = false, false, true
 	largest := largestWindow
@@ -75,6 +78,15 @@ func (ts turns) do(i int, f func()) {
 	<-ts[i]
 }
 
+// step is an operation that orders.
+func step(site uint32) {
+	s := &Site{ID: site}
+	g := current(s)
+	mu.Lock()
+	g.note(wire.Lock, 0, s)
+	mu.Unlock()
+}
+
 func TestRepeats(t *testing.T) {
 	const one, other = 0, 1
 	sites := make([]Site, 10)
@@ -91,28 +103,37 @@ func TestRepeats(t *testing.T) {
 		})
 	}
 	read := func(i, site int) { ts.do(i, func() { Read(x, &sites[site]) }) }
-	step := func(i int) {
-		ts.do(i, func() {
-			g := current(&sites[0])
-			mu.Lock()
-			g.note(wire.Lock, 0, &sites[0])
-			mu.Unlock()
-		})
-	}
+	step := func(i int) { ts.do(i, func() { step(0) }) }
 	unseen := func() { *x += 1000 }
 	for _, c := range []struct {
 		name string
 		run  func()
 		want string
 	}{
-		{"once", func() { write(one, 1, 5); read(other, 2); read(other, 2); write(one, 1, 5); read(other, 3) }, "w1 r2 r3"},
+		{"once", func() { write(one, 1, 5); read(other, 2); read(other, 2); write(one, 1, 5); read(other, 3) }, "w1 r2"},
 		{"behind a step", func() { write(one, 1, 5); step(one); write(one, 1, 5); read(other, 2) }, "w1 - w1 r2"},
-		{"another's write", func() { write(one, 1, 5); write(other, 2, 5); write(one, 1, 5); read(other, 3) }, "w1 w2 w1 r3"},
-		{"another place", func() { write(one, 1, 5); write(one, 2, 1); write(one, 1, 1); read(other, 3) }, "w1 w2 w1 r3"},
-		{"begun before another's", func() { write(one, 1, 5); write(other, 2, 1); unseen(); read(other, 3) }, "w1 w2 r3"},
+		{"another's write", func() { write(one, 1, 5); write(other, 2, 5); write(one, 1, 5); step(other); read(other, 3) }, "w1 w2 w1 - r3"},
+		{"another place", func() { write(one, 1, 5); write(one, 2, 1); write(one, 1, 1); read(other, 3) }, "w1 r3"},
+		{"a read after a write", func() { write(one, 1, 1); read(one, 2); step(one); read(one, 2); write(one, 1, 1) }, "w1 - r2 w1"},
+		{"begun before another's", func() { write(one, 1, 5); write(other, 2, 1); unseen(); step(other); read(other, 3) }, "w1 w2 - r3"},
 		{"unseen", func() { write(one, 1, 1); unseen(); read(other, 2) }, "w1 ? r2"},
-		{"unseen behind", func() { write(one, 1, 5); step(one); read(other, 2); unseen(); read(other, 3) }, "w1 - r2 ? r3"},
-		{"unseen behind a write", func() { write(one, 1, 5); write(other, 2, 1); read(one, 3); unseen(); read(one, 4) }, "w1 w2 r3 ? r4"},
+		{"unseen after", func() {
+			write(one, 1, 5)
+			step(one)
+			read(other, 2)
+			unseen()
+			step(other)
+			read(other, 3)
+		}, "w1 - r2 - ? r3"},
+		{"unseen after a write", func() {
+			write(one, 1, 5)
+			write(other, 2, 1)
+			step(one)
+			read(one, 3)
+			unseen()
+			step(one)
+			read(one, 4)
+		}, "w1 w2 - r3 - ? r4"},
 	} {
 		log := record(t)
 		x, ts = new(int), newTurns(t, 2)
@@ -120,6 +141,23 @@ func TestRepeats(t *testing.T) {
 		if got := log(); got != c.want {
 			t.Errorf("%s: %s, not %s", c.name, got, c.want)
 		}
+	}
+}
+
+// What was read of a struct is read of its fields, and no other way round.
+func TestRepeatsOfFields(t *testing.T) {
+	type pair struct{ A, B int }
+	log := record(t)
+	x, ts := &pair{}, newTurns(t, 1)
+	first, all := &Site{ID: 1}, &Site{ID: 2}
+	ts.do(0, func() {
+		Read(&x.A, first)
+		Read(x, all)
+		Read(&x.A, first)
+		Read(&x.B, first) // which stands elsewhere
+	})
+	if got := log(); got != "r1 r2 r2 r1" {
+		t.Error(got)
 	}
 }
 

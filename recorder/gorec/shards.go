@@ -12,7 +12,8 @@ import (
 // What is known of memory stands in tables, each with a lock of its own: memory is divided into
 // blocks, and each block belongs to a table. An access is done and recorded while the locks of
 // its blocks are held, so no other goroutine is seen in between. Where mu is held too it was
-// taken first. Who holds mu and all of these locks is alone: so another part begins.
+// taken first. Who holds mu and all of these locks, and has waited for those that read without
+// one (shadow.go), is alone: so another part begins.
 
 const (
 	shardBits  = 6

@@ -55,10 +55,14 @@ func read[T any](p *T, s *Site) (v T, o user) {
 		return *p, o
 	}
 	g := current(s)
-	if g.hasRead(unsafe.Pointer(p), s) {
+	if g.hasRead(unsafe.Pointer(p), unsafe.Sizeof(*p)) {
 		return *p, o
 	}
 	o = g.at(s)
+	l := layoutAt(p, s)
+	if l.single != 0 && l.single <= 8 && o.readsShown(unsafe.Pointer(p), l.single) {
+		return *p, o
+	}
 	h := g.hold(unsafe.Pointer(p), unsafe.Sizeof(*p))
 	v = *p
 	readAll(o, p)
@@ -76,7 +80,7 @@ func setBy[T any](p *T, v T, s *Site, o user) {
 		return
 	}
 	g := current(s)
-	if g.hasLeave(unsafe.Pointer(p), s) {
+	if g.hasLeave(unsafe.Pointer(p), unsafe.Sizeof(*p)) {
 		*p = v
 		return
 	}
@@ -86,9 +90,10 @@ func setBy[T any](p *T, v T, s *Site, o user) {
 	h := g.hold(unsafe.Pointer(p), unsafe.Sizeof(*p))
 	*p = v
 	if wroteAll(o, p) {
-		g.giveLeave(unsafe.Pointer(p), s)
+		g.giveLeave(unsafe.Pointer(p), unsafe.Sizeof(*p))
 	}
 	h.release()
+	g.hasRead(unsafe.Pointer(p), unsafe.Sizeof(*p))
 }
 
 // New is what a composite literal made; what isn't zero was written.

@@ -29,6 +29,7 @@ type window struct {
 }
 
 var (
+	mapped  []byte // the log
 	header  *wire.Header
 	records []wire.Record
 	steps   uint32 // records that aren't placed by their Value; changed with mu alone
@@ -58,6 +59,7 @@ func openLog(path string) error {
 	if err != nil {
 		return err
 	}
+	mapped = b
 	header = (*wire.Header)(unsafe.Pointer(&b[0]))
 	records = unsafe.Slice((*wire.Record)(unsafe.Pointer(&b[wire.Size])), count)
 	header.Magic = wire.Magic
@@ -108,7 +110,19 @@ func (w *window) refill() bool {
 		atomic.StoreUint32(&full, 1)
 	}
 	w.next, w.end = end-w.size, end
+	giveBack(w.next, end)
 	return true
+}
+
+// given is how many bytes of the log are given back at once.
+const given = 1 << 20
+
+// giveBack has the system take memory of what was written a while ago, which is in the file. Who
+// has a window there, and writes, gets it again.
+func giveBack(from, to uint32) {
+	if now := int(to) * wire.Size / given; now > int(from)*wire.Size/given && now >= 2 {
+		syscall.Madvise(mapped[(now-2)*given:(now-1)*given], syscall.MADV_DONTNEED)
+	}
 }
 
 // reserve is how many records of a run's only log are kept for the steps of one operation.

@@ -7,68 +7,48 @@ import "gorace.local/recorder/wire"
 
 const whole = 0xff
 
-// parts are the variables that one of a log becomes: which bytes each has, and its number.
+// parts are the variables that one of a log becomes: which bytes each has, and the number of
+// the second one; those of the others follow.
 type parts struct {
-	bytes   []uint8
-	objects []uint32
+	bytes  []uint8
+	second uint32
 }
 
-// apart makes of each variable of a log as many as are told apart.
-func apart(records []wire.Record) []wire.Record {
-	divided, objects := divide(records)
-	if len(divided) == 0 {
-		return records
-	}
-	all := make([]wire.Record, 0, len(records))
-	for _, r := range records {
-		p := divided[r.Object]
-		switch {
-		case p == nil || r.Op == wire.Unseen:
-			all = append(all, r)
-		case r.Op == wire.DeclareVar:
-			for k := range p.bytes {
-				if k > 0 {
-					objects++
-					r.Object = objects
-				}
-				p.objects = append(p.objects, r.Object)
-				all = append(all, r)
-			}
-		default:
-			for k, bytes := range p.bytes {
-				if bytes&bytesOf(&r) != 0 {
-					one := r
-					one.Object, one.Count = p.objects[k], 0
-					all = append(all, one)
-				}
-			}
-		}
-	}
-	return all
-}
+// divided are the variables of a log of which records are about some bytes.
+type divided map[uint32]*parts
 
-// divide are the variables of which records are about some bytes, and the highest number of an
-// object.
-func divide(records []wire.Record) (divided map[uint32]*parts, objects uint32) {
-	divided = map[uint32]*parts{}
-	for i := range records {
-		r := &records[i]
+// divide finds them, and numbers what they become.
+func divide(l reading) divided {
+	d := divided{}
+	var inOrder []*parts
+	objects := uint32(0)
+	l.each(func(r *wire.Record) {
 		if r.Object > objects {
 			objects = r.Object
 		}
-		if r.Count != 0 && (r.Op == wire.Read || r.Op == wire.Write) && divided[r.Object] == nil {
-			divided[r.Object] = &parts{}
+		if r.Count != 0 && isPlain(r.Op) && d[r.Object] == nil {
+			p := &parts{}
+			d[r.Object] = p
+			inOrder = append(inOrder, p)
 		}
+	})
+	if len(d) == 0 {
+		return nil
 	}
-	for i := range records {
-		if r := &records[i]; r.Op == wire.Read || r.Op == wire.Write {
-			if p := divided[r.Object]; p != nil {
-				p.divide(bytesOf(r))
-			}
+	l.each(func(r *wire.Record) {
+		if p := d[r.Object]; p != nil && isPlain(r.Op) {
+			p.divide(bytesOf(r))
 		}
+	})
+	for _, p := range inOrder {
+		p.second = objects + 1
+		objects += uint32(len(p.bytes) - 1)
 	}
-	return divided, objects
+	return d
 }
+
+// isPlain reports whether an operation is a read or a write that isn't atomic.
+func isPlain(op wire.Op) bool { return op == wire.Read || op == wire.Write }
 
 // bytesOf are those that an access is about.
 func bytesOf(r *wire.Record) uint8 {
@@ -90,5 +70,52 @@ func (p *parts) divide(bytes uint8) {
 	}
 	if rest != 0 {
 		p.bytes = append(p.bytes, rest)
+	}
+}
+
+// of are the parts of the variable that a record is about, nil where it has none.
+func (d divided) of(r *wire.Record) *parts {
+	if d == nil || r.Op == wire.Unseen {
+		return nil
+	}
+	return d[r.Object]
+}
+
+// count is how many records a record becomes.
+func (d divided) count(r *wire.Record) int {
+	p := d.of(r)
+	switch {
+	case p == nil:
+		return 1
+	case r.Op == wire.DeclareVar:
+		return len(p.bytes)
+	}
+	n := 0
+	for _, b := range p.bytes {
+		if b&bytesOf(r) != 0 {
+			n++
+		}
+	}
+	return n
+}
+
+// put sets records to what a record becomes, as many as count says.
+func (d divided) put(records []wire.Record, r wire.Record) {
+	p := d.of(&r)
+	if p == nil {
+		records[0] = r
+		return
+	}
+	n, bytes, first := 0, bytesOf(&r), r.Object
+	for k, b := range p.bytes {
+		if r.Op != wire.DeclareVar && b&bytes == 0 {
+			continue
+		}
+		if r.Object = first; k > 0 {
+			r.Object = p.second + uint32(k-1)
+		}
+		r.Count = 0
+		records[n] = r
+		n++
 	}
 }

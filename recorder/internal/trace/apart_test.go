@@ -19,7 +19,7 @@ func TestApart(t *testing.T) {
 		{Op: wire.Write, Object: 3, Count: 0x01}, {Op: wire.Read, Object: 3, Count: 0x80}, {Op: wire.Write, Object: 3, Count: 0x01},
 	}
 	var got []string
-	for _, r := range apart(records) {
+	for _, r := range orderOf(records) {
 		got = append(got, fmt.Sprintf("%d.%d", r.Op, r.Object))
 		if r.Count != 0 {
 			t.Errorf("%+v", r)

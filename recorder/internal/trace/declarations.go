@@ -78,16 +78,15 @@ func declare(l *lender, table sites.Table) *declarer {
 		counts:   map[wire.Op]int{},
 		end:      l.to,
 	}
-	if l.to < len(l.records) {
+	if l.to < l.len() {
 		d.cut = tooManyGoroutines
 	}
 	for g := uint32(1); g <= l.started; g++ {
-		d.names[d.goroutine(g)] = 1
-	}
-	for i := range l.records[:l.to] {
-		if d.end < i {
-			break
+		if l.alive[g] {
+			d.names[d.goroutine(g)] = 1
 		}
+	}
+	for i := 0; i < l.to && i <= d.end; i++ {
 		d.record(i)
 	}
 	return d
@@ -117,13 +116,14 @@ func (d *declarer) room(i int, op wire.Op, what string) bool {
 }
 
 func (d *declarer) record(i int) {
-	r := &d.records[i]
+	r := d.at(i)
+	d.inherit(i, r)
 	switch r.Op {
 	case wire.Go:
 		d.declareGoroutine(i, r)
 	case wire.DeclareVar, wire.DeclareChan, wire.DeclareLock, wire.DeclareOnce, wire.Release:
 		if d.keep(r.Object) {
-			d.object(i, r)
+			d.declareObject(i, &d.objects[r.Object])
 		}
 	case wire.AtomicRead, wire.AtomicWrite:
 		o := &d.objects[r.Object]
@@ -135,6 +135,19 @@ func (d *declarer) record(i int) {
 		fmt.Fprintf(&d.text, "var %s\n", name)
 	case wire.Send, wire.Receive:
 		d.buffer(i, r)
+	}
+}
+
+// inherit declares what a record uses first that an earlier segment has declared.
+func (d *declarer) inherit(i int, r *wire.Record) {
+	for k := 1; r.Op == wire.Default && k <= int(r.Count); k++ {
+		d.inherit(i, &wire.Record{Object: d.at(i + k).Object})
+	}
+	if o := &d.objects[r.Object]; o.inherited && r.Op != wire.Case {
+		o.inherited = false
+		if d.keep(r.Object) {
+			d.declareObject(i, o)
+		}
 	}
 }
 
@@ -170,9 +183,8 @@ func (d *declarer) declareGoroutine(i int, r *wire.Record) {
 	}
 }
 
-// object declares what is used by several.
-func (d *declarer) object(i int, r *wire.Record) {
-	o := &d.objects[r.Object]
+// declareObject declares what is used by several.
+func (d *declarer) declareObject(i int, o *object) {
 	switch o.op {
 	case wire.DeclareVar:
 		if d.room(i, o.op, "variables") {

@@ -54,9 +54,6 @@ func (d *declarer) print(out io.Writer) (*printer, error) {
 		goroutines: make([]string, d.started+1),
 		starts:     map[string][]Start{},
 	}
-	for g := range p.goroutines {
-		p.goroutines[g] = d.goroutine(uint32(g))
-	}
 	fmt.Fprintf(p.out, "gotrace %d\n", p.Version)
 	p.out.WriteString(d.text.String())
 	for i := 0; i < d.end; i++ {
@@ -69,7 +66,7 @@ func (d *declarer) print(out io.Writer) (*printer, error) {
 			d.printed(p, i)
 		}
 	}
-	if p.fault != "" && d.end == len(d.records) {
+	if p.fault != "" && d.end == d.len() {
 		p.out.WriteString(p.fault)
 		p.events++
 	}
@@ -78,7 +75,7 @@ func (d *declarer) print(out io.Writer) (*printer, error) {
 
 // most is how many events a record may become.
 func (p *printer) most(i int) int {
-	switch r := &p.records[i]; r.Op {
+	switch r := p.at(i); r.Op {
 	case wire.Read, wire.Write:
 		return 1 + len(p.objects[r.Object].atomics)
 	case wire.Go, wire.Release, wire.Acquire:
@@ -89,7 +86,7 @@ func (p *printer) most(i int) int {
 
 // print writes the events of a record.
 func (p *printer) print(i int) {
-	r := &p.records[i]
+	r := p.at(i)
 	switch r.Op {
 	case wire.Go:
 		p.start(r)
@@ -106,7 +103,7 @@ func (p *printer) print(i int) {
 		}
 	case wire.FaultSend, wire.FaultClose, wire.FaultUnlock, wire.FaultReadUnlock:
 		if p.keep(r.Object) {
-			p.fault = "fault " + p.goroutines[r.Goroutine] + " " + faults[r.Op] + p.objectName(r.Object) + " " +
+			p.fault = "fault " + p.nameOf(r.Goroutine) + " " + faults[r.Op] + p.objectName(r.Object) + " " +
 				p.table[r.Site].Place + "\n"
 		}
 	case wire.Read, wire.Write, wire.AtomicRead, wire.AtomicWrite:
@@ -118,6 +115,14 @@ func (p *printer) print(i int) {
 			p.event(p.word(r.Op), r, p.objects[r.Object].name)
 		}
 	}
+}
+
+// nameOf is the name of a goroutine.
+func (p *printer) nameOf(g uint32) string {
+	if p.goroutines[g] == "" {
+		p.goroutines[g] = p.goroutine(g)
+	}
+	return p.goroutines[g]
 }
 
 func (p *printer) word(op wire.Op) string {
@@ -143,7 +148,7 @@ func (p *printer) access(r *wire.Record) {
 		if r.Op == wire.Write {
 			o.writes++
 		}
-		p.valued(words[r.Op], r, o.name, o.writes)
+		p.valued(words[r.Op], r, o.name, uint64(o.writes))
 	}
 	if o.mixed() {
 		for g, name := range o.atomics {
@@ -159,14 +164,14 @@ func (p *printer) start(r *wire.Record) {
 	if !p.alive[r.Other] {
 		return
 	}
-	name := p.goroutines[r.Other]
+	name := p.nameOf(r.Other)
 	if c := p.channels[r.Other]; c != "" {
 		p.event("close", r, c)
 		p.event("recvclosed", &wire.Record{Op: wire.ReceiveClosed, Goroutine: r.Other, Site: r.Site}, c)
 	} else {
 		p.event("go", r, name)
 	}
-	s := Start{By: p.goroutines[r.Goroutine], Place: p.table[r.Site].Place, Event: p.events, Stack: r.OtherSite}
+	s := Start{By: p.nameOf(r.Goroutine), Place: p.table[r.Site].Place, Event: p.events, Stack: r.OtherSite}
 	if wire.GoKind(r.Kind) == wire.GoForeign {
 		s.Place = "a place that isn't recorded"
 	}
@@ -187,7 +192,7 @@ func (p *printer) objectName(id uint32) string {
 func (p *printer) takeDefault(i int, r *wire.Record) {
 	var cases []string
 	for k := 1; k <= int(r.Count); k++ {
-		c := &p.records[i+k]
+		c := p.at(i + k)
 		if c.Count == 1 || !p.keep(c.Object) {
 			continue
 		}
@@ -238,9 +243,9 @@ func (p *printer) startLine(word string, r *wire.Record) {
 	p.fault = "" // something follows: it was recovered from
 	p.events++
 	p.line = append(p.line[:0], word...)
-	p.line = append(append(p.line, ' '), p.goroutines[r.Goroutine]...)
+	p.line = append(append(p.line, ' '), p.nameOf(r.Goroutine)...)
 	if r.Op == wire.Meet {
-		p.line = append(append(p.line, ' '), p.goroutines[r.Other]...)
+		p.line = append(append(p.line, ' '), p.nameOf(r.Other)...)
 	}
 }
 

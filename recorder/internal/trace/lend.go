@@ -45,13 +45,17 @@ type lender struct {
 // named numbers the goroutines that have a name. Where there are too many at once, the trace
 // goes as far as names last for those that do something; who was started and did nothing up to
 // there has none.
-func named(records []wire.Record, o Options) *lender {
-	for to := lookAhead; to < len(records) && !o.All; to *= 4 {
-		if l := namedUpTo(records, to, o); l.to < to || l.end < to {
+func named(s *stretch, o Options) *lender {
+	ahead := lookAhead
+	if len(s.acts) <= o.goroutineLimit() {
+		ahead = s.len()
+	}
+	for to := ahead; to < s.len() && !o.All; to *= 4 {
+		if l := namedUpTo(s, to, o); l.to < to || l.end < to {
 			return l
 		}
 	}
-	return namedUpTo(records, len(records), o)
+	return namedUpTo(s, s.len(), o)
 }
 
 // lookAhead is how many records are looked at first for where a trace ends. A long log of many
@@ -59,13 +63,13 @@ func named(records []wire.Record, o Options) *lender {
 var lookAhead = 1 << 18
 
 // namedUpTo is named for so many records.
-func namedUpTo(records []wire.Record, to int, o Options) *lender {
-	l := lend(newSurvey(records, to, o))
+func namedUpTo(s *stretch, to int, o Options) *lender {
+	l := lend(newSurvey(s, to, o))
 	if l.end == to || o.All {
 		return l
 	}
 	if end := l.crowd(); end > l.end {
-		return lend(newSurvey(records, end, o))
+		return lend(newSurvey(s, end, o))
 	}
 	return l
 }
@@ -77,8 +81,8 @@ func (s *survey) crowd() int {
 	named := make([]bool, s.started+1)
 	named[0] = true
 	names := 1
-	for i := range s.records[:s.to] {
-		r := &s.records[i]
+	for i := 0; i < s.to; i++ {
+		r := s.at(i)
 		if r.Op == wire.Go {
 			starter[r.Other] = r.Goroutine
 		}
@@ -119,8 +123,8 @@ func lend(s *survey) *lender {
 	if s.living() <= s.goroutineLimit() {
 		return l
 	}
-	for i := range s.records[:s.to] {
-		r := &s.records[i]
+	for i := 0; i < s.to; i++ {
+		r := s.at(i)
 		switch {
 		case r.Op == wire.Go:
 			if !l.start(r) {
@@ -199,7 +203,8 @@ func (l *lender) follow(r *wire.Record) {
 		l.join(r.Goroutine, d)
 		l.join(r.Other, sender)
 	case wire.Close, wire.OnceEnd, wire.Release:
-		l.pairing(r.Object).last = c.copy()
+		p := l.pairing(r.Object)
+		p.last = append(p.last[:0], c...)
 	case wire.ReceiveClosed, wire.OnceDone, wire.Acquire, wire.ReadLock, wire.TryReadLock:
 		l.join(r.Goroutine, l.pairing(r.Object).last)
 	case wire.Lock, wire.TryLock:
@@ -209,7 +214,7 @@ func (l *lender) follow(r *wire.Record) {
 		p.readers = nil
 	case wire.Unlock:
 		p := l.pairing(r.Object)
-		p.last = c.copy()
+		p.last = append(p.last[:0], c...)
 		p.all = p.all.join(c)
 	case wire.ReadUnlock:
 		p := l.pairing(r.Object)

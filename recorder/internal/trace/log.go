@@ -16,6 +16,7 @@ type Log struct {
 	mapped  []byte
 	header  *wire.Header
 	records []wire.Record
+	ordered []byte // the memory of these, in order
 }
 
 // Open maps a log into memory.
@@ -47,7 +48,7 @@ func Open(path string) (*Log, error) {
 		return nil, fmt.Errorf("%s is no log of this gorec", path)
 	}
 	records := unsafe.Slice((*wire.Record)(unsafe.Pointer(&b[0])), len(b)/wire.Size)[1:]
-	return &Log{b, header, records}, nil
+	return &Log{mapped: b, header: header, records: records}, nil
 }
 
 // Len is up to where the log has records.
@@ -58,13 +59,31 @@ func (l *Log) Len() int {
 	return len(l.records)
 }
 
-// Records are those of the log, in the order in which the operations were done.
+// Records are those of the log, in the order in which the operations were done, until it is
+// closed.
 func (l *Log) Records() []wire.Record {
-	ordered := inOrder(l.records[:l.Len()])
-	syscall.Madvise(l.mapped, syscall.MADV_DONTNEED) // it isn't needed any more, and can be had again
-	records := apart(ordered)
+	records := inOrder(reading{l.records[:l.Len()], l.giveBack}, l.room)
 	renumber(records)
 	return records
+}
+
+// room is memory that Go's collector needn't know.
+func (l *Log) room(n int) []wire.Record {
+	b, err := syscall.Mmap(-1, 0, (n+1)*wire.Size, syscall.PROT_READ|syscall.PROT_WRITE, syscall.MAP_ANON|syscall.MAP_PRIVATE)
+	if err != nil {
+		return make([]wire.Record, n)
+	}
+	l.ordered = b
+	return unsafe.Slice((*wire.Record)(unsafe.Pointer(&b[0])), n)
+}
+
+// giveBack has the system take the memory of records, which are in the file.
+func (l *Log) giveBack(records []wire.Record) {
+	const page = 1 << 12
+	begin := int(uintptr(unsafe.Pointer(&records[0])) - uintptr(unsafe.Pointer(&l.mapped[0])))
+	if from, to := begin/page*page, (begin+len(records)*wire.Size)/page*page; from < to {
+		syscall.Madvise(l.mapped[from:to], syscall.MADV_DONTNEED)
+	}
 }
 
 // GoesOn reports whether the run has another log, so that this one is whole.
@@ -85,5 +104,10 @@ func (l *Log) Forgotten() int { return int(atomic.LoadUint32(&l.header.Forgotten
 // Version is that of the trace which the log is for.
 func (l *Log) Version() int { return int(l.header.Version) }
 
-// Close unmaps the log.
-func (l *Log) Close() error { return syscall.Munmap(l.mapped) }
+// Close gives back the memory of the log, and of its records.
+func (l *Log) Close() error {
+	if l.ordered != nil {
+		syscall.Munmap(l.ordered)
+	}
+	return syscall.Munmap(l.mapped)
+}

@@ -57,12 +57,16 @@ type follower struct {
 // Moments are those of the wanted events, which are counted from 1, of the trace that Write
 // makes of the same log.
 func Moments(records []wire.Record, table sites.Table, o Options, wanted map[int]bool) (map[int]Moment, error) {
+	return momentsOf(wholeLog(records), table, o, wanted)
+}
+
+func momentsOf(s *stretch, table sites.Table, o Options, wanted map[int]bool) (map[int]Moment, error) {
 	f := &follower{held: map[uint32][]holding{}, last: map[uint32]Deed{}, wanted: wanted, moments: map[int]Moment{}}
-	d := declare(named(records, o), table)
+	d := declare(named(s, o), table)
 	told := 0
 	d.printed = func(p *printer, i int) {
 		f.printer = p
-		r := &records[i]
+		r := p.at(i)
 		for told < p.events {
 			if told++; wanted[told] {
 				f.moments[told] = f.moment(r)
@@ -110,7 +114,7 @@ func (f *follower) follow(r *wire.Record) {
 	g, place := r.Goroutine, f.table[r.Site].Place
 	switch r.Op {
 	case wire.Go:
-		f.last[g] = Deed{"go of " + f.goroutines[r.Other], place}
+		f.last[g] = Deed{"go of " + f.nameOf(r.Other), place}
 		f.last[r.Other] = Deed{"its start", place}
 		return
 	case wire.Exit:

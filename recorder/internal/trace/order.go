@@ -7,108 +7,115 @@ func hasPosition(op wire.Op) bool {
 	return op == wire.Read || op == wire.Write || op == wire.DeclareVar || op == wire.Unseen
 }
 
+// A reading is the records of a log, as they were written. It is read several times from its
+// begin to its end.
+type reading struct {
+	records []wire.Record
+	passed  func([]wire.Record) // the memory of these isn't needed until the next time
+}
+
+// passes is how many records are read before their memory is given back.
+const passes = 1 << 16
+
+// each calls f with each record that was written.
+func (l reading) each(f func(r *wire.Record)) {
+	for rest := l.records; len(rest) > 0; {
+		n := passes
+		if n > len(rest) {
+			n = len(rest)
+		}
+		for i := range rest[:n] {
+			if rest[i].Op != wire.None {
+				f(&rest[i])
+			}
+		}
+		if l.passed != nil {
+			l.passed(rest[:n])
+		}
+		rest = rest[n:]
+	}
+}
+
 // An order is where the records of a log stand. Behind each number of steps there is a place
 // for declarations, then one for what else says where it stands.
 type order struct {
-	steps int
-	next  []uint32 // for each number of steps: the number of steps behind which there is room
-	fewer []uint32 // of each place: how many records that say where they stand have one before it
+	divided divided
+	steps   int
+	within  []uint64 // a bit for each number of steps after which a case of a default follows
+	before  []uint32 // of each place: how many records that say where they stand have one before it
 }
 
-func newOrder(records []wire.Record) *order {
-	o := &order{}
-	for i := range records {
-		op := records[i].Op
-		if op == wire.None || hasPosition(op) {
-			continue
+func newOrder(l reading) *order {
+	o := &order{divided: divide(l)}
+	l.each(func(r *wire.Record) {
+		if hasPosition(r.Op) {
+			return
 		}
-		if op != wire.Case { // which stands right behind what it is a case of
-			o.fill()
+		for len(o.within) <= o.steps>>6 {
+			o.within = append(o.within, 0)
+		}
+		if r.Op == wire.Case {
+			o.within[o.steps>>6] |= 1 << (o.steps & 63)
 		}
 		o.steps++
-	}
-	o.fill()
-	o.fewer = make([]uint32, 2*o.steps+3)
-	for i := range records {
-		if r := &records[i]; hasPosition(r.Op) {
-			o.fewer[o.place(r)+1]++
+	})
+	o.before = make([]uint32, 2*o.steps+3)
+	l.each(func(r *wire.Record) {
+		if hasPosition(r.Op) {
+			o.before[o.place(r)+1] += uint32(o.divided.count(r))
 		}
-	}
-	for i := 1; i < len(o.fewer); i++ {
-		o.fewer[i] += o.fewer[i-1]
+	})
+	for i := 1; i < len(o.before); i++ {
+		o.before[i] += o.before[i-1]
 	}
 	return o
 }
 
-// fill has room behind the steps so far.
-func (o *order) fill() {
-	for len(o.next) <= o.steps {
-		o.next = append(o.next, uint32(o.steps))
-	}
-}
-
+// place is that of a record that says where it stands. A case stands right after what it is a
+// case of.
 func (o *order) place(r *wire.Record) int {
-	behind := o.steps
-	if r.Value < uint64(behind) {
-		behind = int(o.next[r.Value])
+	after := o.steps
+	if r.Value < uint64(after) {
+		for after = int(r.Value); after < o.steps && o.within[after>>6]>>(after&63)&1 != 0; {
+			after++
+		}
 	}
 	if r.Op == wire.DeclareVar {
-		return 2 * behind
+		return 2 * after
 	}
-	return 2*behind + 1
+	return 2*after + 1
 }
 
-// inOrder copies the records of a log, each access to where it was done. The Value of a
-// DeclareVar becomes the offset that its OtherSite is in the log.
-func inOrder(records []wire.Record) []wire.Record {
-	o := newOrder(records)
-	ordered := make([]wire.Record, o.steps+int(o.fewer[len(o.fewer)-1]))
-	places := append([]uint32(nil), o.fewer...)
+// len is how many records there are in the order.
+func (o *order) len() int { return o.steps + int(o.before[len(o.before)-1]) }
+
+// inOrder sets the records of a log to where they were done, where bytes that are told apart
+// are variables of their own. The Value of a DeclareVar becomes the offset that its OtherSite
+// is in the log.
+func inOrder(l reading, room func(n int) []wire.Record) []wire.Record {
+	o := newOrder(l)
+	ordered := room(o.len())
 	step := 0
-	for i := range records {
-		r := &records[i]
-		switch {
-		case r.Op == wire.None:
-		case !hasPosition(r.Op):
-			ordered[step+int(o.fewer[2*step+2])] = *r
+	l.each(func(r *wire.Record) {
+		if !hasPosition(r.Op) {
+			ordered[step+int(o.before[2*step+2])] = *r
 			step++
-		default:
-			place := o.place(r)
-			q := &ordered[place/2+int(places[place])]
-			places[place]++
-			*q = *r
-			q.Value = 0
-			if r.Op == wire.DeclareVar {
-				q.Value, q.OtherSite = uint64(r.OtherSite), 0
-			}
 		}
-	}
+	})
+	l.each(func(r *wire.Record) {
+		if !hasPosition(r.Op) {
+			return
+		}
+		place := o.place(r)
+		first := place/2 + int(o.before[place])
+		set := ordered[first : first+o.divided.count(r)]
+		o.before[place] += uint32(len(set))
+		q := *r
+		q.Value = 0
+		if r.Op == wire.DeclareVar {
+			q.Value, q.OtherSite = uint64(r.OtherSite), 0
+		}
+		o.divided.put(set, q)
+	})
 	return ordered
-}
-
-// renumber gives the objects and the goroutines of a log that isn't a run's first numbers from
-// 1, as few as there are.
-func renumber(records []wire.Record) {
-	objects, goroutines := map[uint32]uint32{0: 0}, map[uint32]uint32{0: 0}
-	number := func(m map[uint32]uint32, id uint32) uint32 {
-		n, known := m[id]
-		if !known {
-			n = uint32(len(m))
-			m[id] = n
-		}
-		return n
-	}
-	most := uint32(0)
-	for i := range records {
-		if r := &records[i]; r.Object > most {
-			most = r.Object
-		}
-	}
-	if int(most) <= len(records) {
-		return
-	}
-	for i := range records {
-		r := &records[i]
-		r.Object, r.Goroutine, r.Other = number(objects, r.Object), number(goroutines, r.Goroutine), number(goroutines, r.Other)
-	}
 }

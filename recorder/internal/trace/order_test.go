@@ -23,7 +23,7 @@ func TestInOrder(t *testing.T) {
 		{Op: wire.Read, Object: 1, Value: 0},
 	}
 	var got []string
-	for _, r := range inOrder(records) {
+	for _, r := range orderOf(records) {
 		got = append(got, fmt.Sprintf("%d:%d.%d.%d", r.Op, r.Value, r.OtherSite, r.Goroutine))
 	}
 	want := fmt.Sprintf("%d:0.0.0 %d:0.0.0 %d:16.0.0 %d:0.0.0 %d:0.0.0 %d:0.5.0 %d:0.0.0 %d:0.0.1 %d:0.0.1 %d:0.0.0",
@@ -31,6 +31,10 @@ func TestInOrder(t *testing.T) {
 	if strings.Join(got, " ") != want {
 		t.Errorf("got %v\nnot %s", got, want)
 	}
+}
+
+func orderOf(records []wire.Record) []wire.Record {
+	return inOrder(reading{records: records}, func(n int) []wire.Record { return make([]wire.Record, n) })
 }
 
 // Places of a log where nothing was written are passed over, a declaration stands in front of
@@ -49,7 +53,7 @@ func TestInOrderOfWindows(t *testing.T) {
 		{},
 	}
 	var got []wire.Op
-	for _, r := range inOrder(records) {
+	for _, r := range orderOf(records) {
 		got = append(got, r.Op)
 	}
 	want := []wire.Op{wire.Default, wire.Case, wire.Case, wire.DeclareVar, wire.Write, wire.Unseen, wire.Exit}

@@ -108,9 +108,9 @@ func TestASegmentGoesOn(t *testing.T) {
 		{Op: wire.Write, Object: 6, Site: 1},
 		{Op: wire.Read, Object: 6, Goroutine: 2, Site: 2},
 	}
-	next, state := goOn(records, 19)
+	next := newCarrier().goOn(wholeLog(records), 19)
 	var b strings.Builder
-	if _, err := Write(next, table, Options{Version: 1}, &b); err != nil {
+	if _, _, err := write(next, table, Options{Version: 1}, &b); err != nil {
 		t.Fatal(err)
 	}
 	want := `gotrace 1
@@ -142,7 +142,32 @@ write main x_4 1 a.go:1
 read g2 x_4 1 a.go:2
 `
 	if b.String() != want {
-		t.Errorf("behind %d records of the state:\n%s", state, b.String())
+		t.Errorf("after %d records of the state:\n%s", len(next.state), b.String())
+	}
+}
+
+// What waits in a channel is what it was, however many segments pass by.
+func TestAValueWaitsThroughSegments(t *testing.T) {
+	records := []wire.Record{
+		{Op: wire.DeclareChan, Object: 1, Site: 1, Value: 2},
+		{Op: wire.DeclareVar, Object: 2, Site: 1},
+		{Op: wire.Go, Other: 1, Site: 1},
+		{Op: wire.Send, Object: 1, Site: 1, Value: 1},
+		{Op: wire.Receive, Object: 1, Goroutine: 1, Site: 1, Value: 1},
+		{Op: wire.Send, Object: 1, Site: 1, Value: 2},
+	}
+	for i := 0; i < 30; i++ {
+		records = append(records, wire.Record{Op: wire.Write, Object: 2, Goroutine: uint32(i % 2), Site: 2})
+	}
+	records = append(records, wire.Record{Op: wire.Receive, Object: 1, Goroutine: 1, Site: 1, Value: 2})
+	texts, s := segments(t, records, Options{Version: 1, Events: 10})
+	for i, text := range texts[1:] {
+		if strings.Count(text, "\nsend ") != 1 || !strings.Contains(text, "\nsend main x 2 ") {
+			t.Errorf("segment %d:\n%s", i+1, text)
+		}
+	}
+	if len(texts) < 4 || s.Cut != "" {
+		t.Errorf("%d segments, cut off: %q", len(texts), s.Cut)
 	}
 }
 

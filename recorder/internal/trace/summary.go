@@ -75,19 +75,17 @@ func (o Options) goroutineLimit() int {
 	return maxGoroutines
 }
 
-// Write writes the trace of a log. What one goroutine alone does with a variable, a channel,
-// a lock or a once is left out, unless all is wanted.
 // Write writes the trace of records that are in order, up to where a limit is reached. What one
 // goroutine alone does with a variable, a channel, a lock or a once is left out, unless all is
 // wanted.
 func Write(records []wire.Record, table sites.Table, o Options, out io.Writer) (*Summary, error) {
-	s, _, err := write(records, table, o, out)
+	s, _, err := write(wholeLog(records), table, o, out)
 	return s, err
 }
 
 // write answers also how many of the records have become a trace.
-func write(records []wire.Record, table sites.Table, o Options, out io.Writer) (s *Summary, end int, err error) {
-	d := declare(named(records, o), table)
+func write(of *stretch, table sites.Table, o Options, out io.Writer) (s *Summary, end int, err error) {
+	d := declare(named(of, o), table)
 	p, err := d.print(out)
 	if err != nil {
 		return nil, 0, err
@@ -97,13 +95,13 @@ func write(records []wire.Record, table sites.Table, o Options, out io.Writer) (
 	for i := range s.losses {
 		s.losses[i] = map[string]int{}
 	}
-	for i := range records[:d.end] {
-		s.look(&records[i], d)
+	for i := 0; i < d.end; i++ {
+		s.look(of.at(i), d)
 	}
 	if d.cut != "" {
 		s.Cut = d.cut
-		if d.end < len(records) {
-			s.Cut += fmt.Sprintf(", at %s", table[records[d.end].Site].Place)
+		if d.end < of.len() {
+			s.Cut += fmt.Sprintf(", at %s", table[of.at(d.end).Site].Place)
 		}
 	}
 	return s, d.end, nil
@@ -117,13 +115,13 @@ func (s *Summary) count(d *declarer) {
 	counts := map[wire.Op]*Count{
 		wire.DeclareVar: &s.Variables, wire.DeclareChan: &s.Channels, wire.Release: &s.Channels, wire.DeclareLock: &s.Locks,
 	}
-	for i := range d.objects {
-		c := counts[d.objects[i].op]
+	for _, id := range d.met {
+		c := counts[d.objects[id].op]
 		if c == nil {
 			continue
 		}
 		c.Met++
-		if d.objects[i].name != "" {
+		if d.objects[id].name != "" {
 			c.Kept++
 		}
 	}

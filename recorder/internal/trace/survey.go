@@ -10,12 +10,14 @@ type object struct {
 	site  uint32
 	value uint64
 
-	user    int64  // the first goroutine that uses it, -1 for none
-	writes  uint64 // of a variable, that are written
-	waiting int    // of a channel: values in its buffer
+	user    uint32 // one more than the first goroutine that uses it, 0 for none
+	writes  uint32 // of a variable, that are written
+	waiting int32  // of a channel: values in its buffer
 	several bool   // more than one goroutine uses it
 	written bool
 
+	met           bool
+	inherited     bool // an earlier segment declared it, and it isn't declared here yet
 	atomicWritten bool
 	atomics       map[uint32]string // the goroutines with atomic operations on it: their variables
 
@@ -24,57 +26,62 @@ type object struct {
 
 // survey is what is known of a log before it is written.
 type survey struct {
-	records []wire.Record
-	to      int // so many of them are looked at
+	*stretch
+	to int // so many of its records are looked at
 	Options
-	objects []object
-	started uint32 // the number of goroutines beside main
-	begin   int    // the first go: what stands before happens before all that others do
-	alive   []bool // goroutines that do something that is kept, or start one that does
-	last    []int  // of each goroutine the last record
+	started uint32   // the number of goroutines beside main
+	begin   int      // the first go: what stands before happens before all that others do
+	alive   []bool   // goroutines that do something that is kept, or start one that does
+	last    []uint32 // of each goroutine the last record
 }
 
-func newSurvey(records []wire.Record, to int, o Options) *survey {
-	s := &survey{records: records, to: to, Options: o, objects: []object{{user: -1}}}
-	for !s.All && s.begin < to && records[s.begin].Op != wire.Go {
+// newSurvey empties what an earlier one of the same log knows.
+func newSurvey(of *stretch, to int, o Options) *survey {
+	s := &survey{stretch: of, to: to, Options: o, last: make([]uint32, len(of.acts))}
+	s.empty()
+	for !s.All && s.begin < to && s.at(s.begin).Op != wire.Go {
 		s.begin++
 	}
-	for i := range records[:to] {
+	for i := 0; i < to; i++ {
 		s.look(i)
-		s.acts(records[i].Goroutine, i)
-		if records[i].Op == wire.Meet {
-			s.acts(records[i].Other, i)
+		r := s.at(i)
+		s.last[r.Goroutine] = uint32(i)
+		if r.Op == wire.Meet {
+			s.last[r.Other] = uint32(i)
 		}
 	}
 	s.findAlive()
 	return s
 }
 
-// acts notes a record of a goroutine.
-func (s *survey) acts(goroutine uint32, i int) {
-	for int(goroutine) >= len(s.last) {
-		s.last = append(s.last, 0)
-	}
-	s.last[goroutine] = i
-}
-
 // ends reports whether an exit is its goroutine's last record. Code that isn't recorded may go
 // on for a goroutine, and start others.
-func (s *survey) ends(i int) bool { return s.last[s.records[i].Goroutine] == i }
+func (s *survey) ends(i int) bool { return s.last[s.at(i).Goroutine] == uint32(i) }
 
+// object is what is known of one, which is met.
 func (s *survey) object(id uint32) *object {
-	for int(id) >= len(s.objects) {
-		s.objects = append(s.objects, object{user: -1})
+	o := &s.objects[id]
+	if !o.met {
+		o.met = true
+		s.met = append(s.met, id)
+		if r := s.inherited(id); r != nil {
+			o.inherited = true
+			o.declare(r)
+		}
 	}
-	return &s.objects[id]
+	return o
+}
+
+func (o *object) declare(r *wire.Record) {
+	o.op, o.kind, o.site, o.value = r.Op, r.Kind, r.Site, r.Value
 }
 
 // use notes that a goroutine uses an object.
 func (s *survey) use(id, goroutine uint32) *object {
 	o := s.object(id)
-	if o.user < 0 {
-		o.user = int64(goroutine)
-	} else if o.user != int64(goroutine) {
+	if o.user == 0 {
+		o.user = goroutine + 1
+	} else if o.user != goroutine+1 {
 		o.several = true
 	}
 	return o
@@ -87,14 +94,13 @@ func isAccess(op wire.Op) bool {
 }
 
 func (s *survey) look(i int) {
-	r := &s.records[i]
+	r := s.at(i)
 	if i < s.begin && isAccess(r.Op) {
 		return
 	}
 	switch r.Op {
 	case wire.DeclareVar, wire.DeclareChan, wire.DeclareLock, wire.DeclareOnce:
-		o := s.object(r.Object)
-		o.op, o.kind, o.site, o.value = r.Op, r.Kind, r.Site, r.Value
+		s.object(r.Object).declare(r)
 	case wire.Go:
 		if r.Other > s.started {
 			s.started = r.Other
@@ -116,7 +122,7 @@ func (s *survey) look(i int) {
 		s.use(r.Object, r.Other)
 	case wire.Default:
 		for k := 1; k <= int(r.Count); k++ {
-			if id := s.records[i+k].Object; id != 0 {
+			if id := s.at(i + k).Object; id != 0 {
 				s.use(id, r.Goroutine)
 			}
 		}
@@ -124,7 +130,9 @@ func (s *survey) look(i int) {
 		if s.hasTries() {
 			s.use(r.Object, r.Goroutine)
 		}
-	case wire.Exit, wire.Case, wire.Unseen, wire.Lost, wire.Full:
+	case wire.Unseen:
+		s.object(r.Object)
+	case wire.Exit, wire.Case, wire.Lost, wire.Full:
 	default:
 		s.use(r.Object, r.Goroutine)
 	}
@@ -133,10 +141,10 @@ func (s *survey) look(i int) {
 // mixed reports whether atomic operations of one goroutine and plain accesses of another come to
 // a variable, and one of them writes.
 func (o *object) mixed() bool {
-	if len(o.atomics) == 0 || o.user < 0 || !o.written && !o.atomicWritten {
+	if len(o.atomics) == 0 || o.user == 0 || !o.written && !o.atomicWritten {
 		return false
 	}
-	_, only := o.atomics[uint32(o.user)]
+	_, only := o.atomics[o.user-1]
 	return o.several || len(o.atomics) > 1 || !only
 }
 
@@ -165,7 +173,7 @@ func (s *survey) inGroup(id uint32) bool { return s.groups == nil || s.groups[id
 
 // kept reports whether the record i becomes an event that orders, reads or writes.
 func (s *survey) kept(i int) bool {
-	r := &s.records[i]
+	r := s.at(i)
 	switch r.Op {
 	case wire.Read, wire.Write:
 		return i >= s.begin && s.keep(r.Object)
@@ -184,7 +192,7 @@ func (s *survey) findAlive() {
 	s.alive = make([]bool, s.started+1)
 	s.alive[0] = true
 	for i := s.to - 1; i >= 0; i-- {
-		r := &s.records[i]
+		r := s.at(i)
 		switch {
 		case r.Op == wire.Go:
 			if s.All || s.alive[r.Other] {

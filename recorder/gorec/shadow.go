@@ -1,0 +1,107 @@
+package gorec
+
+import (
+	"runtime"
+	"sync/atomic"
+	"syscall"
+	"unsafe"
+
+	"gorace.local/recorder/wire"
+)
+
+// A read of what several goroutines use needs no lock of its memory where it finds what was held
+// there last: all that is written is a record, and the number of the variable doesn't change any
+// more as long as the part lasts. For this each word of Go's heap has a shadow, which says the
+// number of the variable there and, in few bits, what that held. Who begins another part waits
+// for those that read so.
+
+const (
+	heapBegin  = 0xc000000000 // of Go's heap
+	shadowSize = 1 << 34      // of that many bytes of it; what isn't used takes no memory
+)
+
+var (
+	shadow     unsafe.Pointer // nil: there is none
+	shadowEnds uintptr        // how many bytes of the heap have one
+)
+
+// openShadow reserves the shadow. Where the system doesn't allow it reads take the locks.
+func openShadow() {
+	const noReserve = syscall.MAP_ANON | syscall.MAP_PRIVATE | syscall.MAP_NORESERVE
+	if !writesInOrder {
+		return
+	}
+	b, err := syscall.Mmap(-1, 0, shadowSize, syscall.PROT_READ|syscall.PROT_WRITE, noReserve)
+	if err == nil {
+		syscall.Madvise(b, syscall.MADV_NOHUGEPAGE)
+		shadow, shadowEnds = unsafe.Pointer(&b[0]), shadowSize
+	}
+}
+
+// clearShadow has all locks.
+func clearShadow() {
+	if shadow != nil {
+		syscall.Madvise(unsafe.Slice((*byte)(shadow), shadowSize), syscall.MADV_DONTNEED)
+	}
+}
+
+// shadowOf is that of the word in which p is, nil where it has none.
+func shadowOf(p unsafe.Pointer) *uint64 {
+	at := uintptr(p) - heapBegin
+	if at >= shadowEnds {
+		return nil
+	}
+	return (*uint64)(unsafe.Add(shadow, at&^7))
+}
+
+// sign is what a shadow says of what a variable holds, and where in its word that stands.
+func sign(p unsafe.Pointer, kind wire.VarKind, bits uint64) uint32 {
+	at := uint32(uintptr(p)&7)<<1 | uint32(kind>>7)
+	return uint32(bits*0x9e3779b97f4a7c15>>36)<<4 | at
+}
+
+// show has the lock of a location at p: it is known, and the number of its variable.
+func (l *location) show(p unsafe.Pointer) {
+	if l.id == 0 || l.known != whole || l.kind != wire.VarMemory && l.kind != inWord {
+		return
+	}
+	if s := shadowOf(p); s != nil {
+		atomic.StoreUint64(s, uint64(l.id)<<32|uint64(sign(p, l.kind, l.bits)))
+	}
+}
+
+// readsShown reports whether a read was recorded without a lock. The location has at most eight
+// bytes.
+func (o user) readsShown(p unsafe.Pointer, size uintptr) bool {
+	bytes, kind := uint8(whole), wire.VarMemory
+	if size == 1 {
+		p, bytes, _ = wordAt(p, 1)
+		size, kind = 8, inWord
+	}
+	s := shadowOf(p)
+	if s == nil {
+		return false
+	}
+	shown := atomic.LoadUint64(s)
+	if shown == 0 || uint32(shown) != sign(p, kind, bitsOf(p, size)) {
+		return false
+	}
+	g := o.g
+	atomic.StoreUint32(&g.unlocked, 1) // before another part is looked for
+	recorded := g.part == atomic.LoadUint32(&part) && atomic.LoadUint32(&full) == 0
+	if recorded {
+		o.put(wire.Read, uint32(shown>>32), bytes)
+		g.does()
+	}
+	g.unlocked = 0 // after the record, since the processor writes in order
+	return recorded
+}
+
+// awaitReaders has all locks, and full is set: nobody begins to read without one.
+func awaitReaders() {
+	for g := range goingOn {
+		for atomic.LoadUint32(&g.unlocked) != 0 {
+			runtime.Gosched()
+		}
+	}
+}

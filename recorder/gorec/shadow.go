@@ -23,6 +23,21 @@ const (
 var (
 	shadow     unsafe.Pointer // nil: there is none
 	shadowEnds uintptr        // how many bytes of the heap have one
+	barred     bool           // bar works
+)
+
+// bar has each processor that runs this program finish its writes. Who reads without a lock, which
+// happens often, needs no barrier then; all that it costs falls to who begins another part.
+func bar(command uintptr) bool {
+	const membarrier = 324 // on x86-64, as all that has a shadow
+	_, _, err := syscall.RawSyscall(membarrier, command, 0, 0)
+	return err == 0
+}
+
+// The commands of bar.
+const (
+	barNow   = 1 << 3
+	barLater = 1 << 4
 )
 
 // openShadow reserves the shadow. Where the system doesn't allow it reads take the locks.
@@ -35,6 +50,7 @@ func openShadow() {
 	if err == nil {
 		syscall.Madvise(b, syscall.MADV_NOHUGEPAGE)
 		shadow, shadowEnds = unsafe.Pointer(&b[0]), shadowSize
+		barred = bar(barLater)
 	}
 }
 
@@ -66,7 +82,7 @@ func (l *location) show(p unsafe.Pointer) {
 		return
 	}
 	if s := shadowOf(p); s != nil {
-		atomic.StoreUint64(s, uint64(l.id)<<32|uint64(sign(p, l.kind, l.bits)))
+		*s = uint64(l.id)<<32 | uint64(sign(p, l.kind, l.bits)) // at once, and behind what p points to
 	}
 }
 
@@ -87,7 +103,11 @@ func (o user) readsShown(p unsafe.Pointer, size uintptr) bool {
 		return false
 	}
 	g := o.g
-	atomic.StoreUint32(&g.unlocked, 1) // before another part is looked for
+	if barred {
+		g.unlocked = 1 // before another part is looked for
+	} else {
+		atomic.StoreUint32(&g.unlocked, 1)
+	}
 	recorded := g.part == atomic.LoadUint32(&part) && atomic.LoadUint32(&full) == 0
 	if recorded {
 		o.put(wire.Read, uint32(shown>>32), bytes)
@@ -99,6 +119,9 @@ func (o user) readsShown(p unsafe.Pointer, size uintptr) bool {
 
 // awaitReaders has all locks, and full is set: nobody begins to read without one.
 func awaitReaders() {
+	if barred {
+		bar(barNow)
+	}
 	for g := range goingOn {
 		for atomic.LoadUint32(&g.unlocked) != 0 {
 			runtime.Gosched()

@@ -34,8 +34,9 @@ type shard struct {
 	met     int
 	limit   int // so many are known before some are forgotten
 	fresh   int // that were met at this age
+	last    int // where the last one was found
 	age     uint8
-	_       [40]byte // no other one's lock is in the same line of a processor's cache
+	_       [31]byte // no other one's lock is in the same line of a processor's cache
 }
 
 type key struct {
@@ -127,12 +128,16 @@ func unlockAll() {
 
 // locate has the lock. It is the number of the entry, which is good until the next call.
 func (sh *shard) locate(p unsafe.Pointer, kind wire.VarKind) int {
+	if i := sh.last; i < len(sh.keys) && sh.keys[i].p == p && sh.entries[i].kind == kind {
+		return i
+	}
 	if len(sh.keys) == 0 {
 		sh.resize(fewest)
 		sh.limit = firstLimit()
 	}
 	i := sh.find(p, kind)
 	if sh.keys[i].p != nil {
+		sh.last = i
 		return i
 	}
 	if sh.met*4 >= len(sh.keys)*3 || sh.isCrowded() {
@@ -140,6 +145,7 @@ func (sh *shard) locate(p unsafe.Pointer, kind wire.VarKind) int {
 		i = sh.find(p, kind)
 	}
 	sh.met++
+	sh.last = i
 	if sh.fresh++; sh.fresh >= sh.limit/ages {
 		sh.age, sh.fresh = sh.age+1, 0
 	}
@@ -148,12 +154,16 @@ func (sh *shard) locate(p unsafe.Pointer, kind wire.VarKind) int {
 	return i
 }
 
+// stride is how far the next place is where a location is looked for. It is odd, so that all
+// places are, and leads out of the line of a cache, which neighbours have filled.
+const stride = 9
+
 // find is where a location stands, or would.
 func (sh *shard) find(p unsafe.Pointer, kind wire.VarKind) int {
 	mask := uintptr(len(sh.keys) - 1)
 	i := hash(p) & mask
 	for sh.keys[i].p != nil && (sh.keys[i].p != p || sh.entries[i].kind != kind) {
-		i = (i + 1) & mask
+		i = (i + stride) & mask
 	}
 	return int(i)
 }

@@ -44,13 +44,20 @@ func wroteAll[T any](o user, p *T) (repeats bool) {
 
 // Read is the value at p.
 func Read[T any](p *T, s *Site) T {
-	v, _ := read(p, s)
-	return v
+	_ = *p // nil panics without the lock
+	if alone() {
+		return *p
+	}
+	g := current(s)
+	if g.hasRead(unsafe.Pointer(p), unsafe.Sizeof(*p)) {
+		return *p
+	}
+	return readBy(p, g.at(s))
 }
 
 // read answers the value at p, and who read it unless that has no record.
 func read[T any](p *T, s *Site) (v T, o user) {
-	_ = *p // nil panics without the lock
+	_ = *p
 	if alone() {
 		return *p, o
 	}
@@ -59,15 +66,20 @@ func read[T any](p *T, s *Site) (v T, o user) {
 		return *p, o
 	}
 	o = g.at(s)
-	l := layoutAt(p, s)
+	return readBy(p, o), o
+}
+
+// readBy is a read of who hasn't read the same.
+func readBy[T any](p *T, o user) (v T) {
+	l := layoutAt(p, o.s)
 	if l.single != 0 && l.single <= 8 && o.readsShown(unsafe.Pointer(p), l.single) {
-		return *p, o
+		return *p
 	}
-	h := g.hold(unsafe.Pointer(p), unsafe.Sizeof(*p))
+	h := o.g.hold(unsafe.Pointer(p), unsafe.Sizeof(*p))
 	v = *p
 	readAll(o, p)
 	h.release()
-	return v, o
+	return v
 }
 
 func set[T any](p *T, v T, s *Site) { setBy(p, v, s, user{}) }

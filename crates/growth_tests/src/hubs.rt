@@ -5,7 +5,7 @@ use crate::calls::{Growing, Reply, assert_each, refused_if, right_if};
 use crate::played::Move::{Ask, Fire, Step};
 use crate::played::Plain::{Do, Go, Recv, Send, TryLock, Write};
 use crate::played::{
-    Asks, Plain, Script, are_alike, are_jobs_alike, asked, boxes, declared, played,
+    Asks, Plain, Script, are_alike, are_jobs_alike, asked, declared, played, routines,
 };
 use race_hub::{Hub, HubFault, Job, SubmitFault};
 use race_records::{Decls, Op};
@@ -78,8 +78,8 @@ fn is_first<A: Allocator + Copy>(hub: &mut Hub<Asks, A>) -> bool {
     is_unplayed && ready == Some(0) && hub.out() == 1
 }
 
-fn new<A: Allocator + Copy>(heap: A, decls: Decls<A>, boxes: Vec<Asks, A>) -> Reply {
-    match Hub::new(heap, decls, 64, boxes) {
+fn new<A: Allocator + Copy>(heap: A, decls: Decls<A>, routines: Vec<Asks, A>) -> Reply {
+    match Hub::new(heap, decls, 64, routines) {
         Ok(mut hub) => right_if(is_first(&mut hub)),
         Err(fault) => refused_if(fault == HubFault::OutOfMemory),
     }
@@ -89,10 +89,10 @@ fn new<A: Allocator + Copy>(heap: A, decls: Decls<A>, boxes: Vec<Asks, A>) -> Re
 fn made(heap: &RefusingHeap<Global>, script: Script, nth: u64) -> Reply
     requires { 0 < nth }
 {
-    match (declared(heap), boxes(heap, script)) {
-        (Some(decls), Some(boxes)) => {
+    match (declared(heap), routines(heap, script)) {
+        (Some(decls), Some(routines)) => {
             heap.refuse(nth);
-            new(heap, decls, boxes)
+            new(heap, decls, routines)
         }
         _ => Reply::Wrong,
     }

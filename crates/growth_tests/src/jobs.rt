@@ -8,7 +8,7 @@ use std::alloc::{AllocError, Allocator, Global};
 use std::sync::Wait;
 use std::thread::Threads;
 
-/// A turn of main, which writes again and again how often its box was called.
+/// A turn of main, which writes again and again how often its routine was called.
 #[derive(Clone, Copy)]
 enum Call {
     /// Behind so many answers.
@@ -30,7 +30,7 @@ fn job_of<A: Allocator + Copy>(heap: A, call: Call) -> Option<Job<Asks, A>> {
     }
 }
 
-// What the box asks when it is called for the first time behind so many answers.
+// What the routine asks when it is called for the first time behind so many answers.
 fn request_of(call: Call) -> Request {
     let answers = match call {
         Call::Turn(moves) => moves.len() as u64,
@@ -48,7 +48,7 @@ fn gives<A: Allocator>(job: &mut Job<Asks, A>, wanted: &Request) -> Result<bool,
     Ok(request == *wanted && job.asked() == Some(request))
 }
 
-// A turn that is refused has called nothing: the next one gives what the box asks when it is called once.
+// A turn that is refused has called nothing: the next one gives what the routine asks when it is called once.
 fn turn<A: Allocator>(job: &mut Job<Asks, A>, twin: &Job<Asks, A>, wanted: &Request) -> Reply {
     match gives(job, wanted) {
         Ok(is_right) => right_if(is_right),

@@ -6,7 +6,7 @@ use crate::calls::{Growing, Reply, assert_each, refused_if, right_if};
 use crate::traced::{ON_X, ON_Y, TWO_RACES, traced};
 use race_records::Trace;
 use race_shards::{Judge, JudgeFault, OpenGate};
-use race_verdict::{NotedVerdict, Verdict};
+use race_verdict::{Report, Verdict};
 use refusing_heap::RefusingHeap;
 use std::alloc::{Allocator, Global};
 use std::sync::Wait;
@@ -34,9 +34,9 @@ fn judged<A: Allocator>(answer: Result<Verdict<A>, JudgeFault>) -> Reply {
     }
 }
 
-fn noted<A: Allocator>(answer: Result<NotedVerdict<A>, JudgeFault>) -> Reply {
+fn noted<A: Allocator>(answer: Result<Report<A>, JudgeFault>) -> Reply {
     match answer {
-        Ok(NotedVerdict::Races(races)) => right_if(races.len() == 2),
+        Ok(Report::Races(races)) => right_if(races.len() == 2),
         Ok(_) => Reply::Wrong,
         Err(fault) => refused_if(is_wanting(fault)),
     }

@@ -92,16 +92,16 @@ pub(crate) fn declared<A: Allocator + Copy>(heap: A) -> Option<Decls<A>> {
     if is_declared { Some(decls) } else { None }
 }
 
-/// Their boxes.
-pub(crate) fn boxes<A: Allocator>(heap: A, script: Script) -> Option<Vec<Asks, A>> {
+/// Their routines.
+pub(crate) fn routines<A: Allocator>(heap: A, script: Script) -> Option<Vec<Asks, A>> {
     let Script(main, others, _) = script;
-    let mut boxes = Vec::new(heap);
+    let mut routines = Vec::new(heap);
     let mut are_all = true;
     for goroutine in 0..5 {
         let asks = if goroutine == 0 { main } else { others };
-        are_all &= boxes.push(Asks { asks, calls: 0 }).is_ok();
+        are_all &= routines.push(Asks { asks, calls: 0 }).is_ok();
     }
-    if are_all { Some(boxes) } else { None }
+    if are_all { Some(routines) } else { None }
 }
 
 /// The job that is ready longest, once it has asked.
@@ -139,8 +139,8 @@ fn play<A: Allocator + Copy>(hub: &mut Hub<Asks, A>, moves: &'static [Move]) -> 
 
 /// A hub that was played so far.
 pub(crate) fn played<A: Allocator + Copy>(heap: A, script: Script) -> Option<Hub<Asks, A>> {
-    let mut hub = match (declared(heap), boxes(heap, script)) {
-        (Some(decls), Some(boxes)) => Hub::new(heap, decls, 64, boxes).ok()?,
+    let mut hub = match (declared(heap), routines(heap, script)) {
+        (Some(decls), Some(routines)) => Hub::new(heap, decls, 64, routines).ok()?,
         _ => return None,
     };
     let Script(_, _, moves) = script;

@@ -50,7 +50,7 @@ fn first_wrong(stream: &mut EventStream<Global>) -> Result<usize, TextCause>
 
 #[test]
 fn events_are_handed_on(rt: HostRuntime) -> Result<(), Fail> {
-    let mut stream = EventStream::new(rt.alloc());
+    let mut stream = EventStream::keyed(rt.alloc(), 7);
     assert!(rt; first_wrong(&mut stream) == Ok(8));
     assert!(rt; stream.end_cause(b"") == None);
     assert!(rt; stream.end_cause(b"exit") == Some(TextCause::NoNewline));

@@ -1,11 +1,12 @@
 -- What is kept of a list of accesses, and what is dropped.
+use native.Mathlib.Numerals.{unary_clauses}
 use Rattle.std.proofs.Common.{◌≡◌, ◌⊎◌, ℕ, zero, suc, ◌<◌, ◌≤◌, not, Bool, true, false, List, [], ◌∷◌, ◌++◌, length}
-use Rattle.std.proofs.Common.{take, drop, Option, Some, None, refl, sym, ap, subst, inl, inr, arith, cond, ltb-true}
+use Rattle.std.proofs.Common.{take, drop, Option, Some, None, refl, sym, ap, subst, ◌∙◌, inl, inr, arith, cond, ltb-true}
 use Rattle.std.proofs.{Math.Facts.leb_yes, lemmas.{Bool.ltb-false, List.take-append-drop}}
 use Rattle.std.proofs.lemmas.List.Elements.{Contains-append_left, Contains-append_right, Contains-append_cases}
 use Rattle.std.proofs.lemmas.List.Elements.{All-filter, All-contains, All-contains_itself}
-use Rattle.std.specs.{Prelude.{T, nat_lt, if◌then◌else◌}, List.{Contains, filter, insert}}
-use Rattle.race_verdict.specs.declared.notes.Noted.{Noted}
+use Rattle.std.specs.{Prelude.{T, nat_lt, if◌then◌else◌, ◌+◌, ◌-◌, slice_set}, List.{Contains, filter, insert, copy_within}}
+use Rattle.race_verdict.specs.declared.report.ReportedAccess.{ReportedAccess}
 use Rattle.race_access.specs.{declared.access.Access.Access, Kept.{Knows, is_known, IsGreatestUnknown, greater}}
 use Rattle.race_access.specs.Kept.{KeepsRead, DropsKnown}
 
@@ -36,7 +37,7 @@ keeps_both clock read access = record {
 }
 
 -- the greatest unknown one of two lists
-pub greatest_of_both : (clock : List ℕ) (xs ys : List Access) (a b : Option Noted)
+pub greatest_of_both : (clock : List ℕ) (xs ys : List Access) (a b : Option ReportedAccess)
     → IsGreatestUnknown clock xs a → IsGreatestUnknown clock ys b → IsGreatestUnknown clock (xs ++ ys) (greater a b)
 greatest_of_both clock xs ys None None knownx knowny = λ e is. elim (Contains-append_cases xs ys e is) [ inl x ↦ knownx e x | inr y ↦ knowny e y ]
 greatest_of_both clock xs ys None (Some n) knownx (e, isy, at, unknown, most) = (
@@ -187,3 +188,25 @@ known_or_kept clock e = go (is_known clock e) refl
     go : (b : Bool) → is_known clock e ≡ b → (not (is_known clock e) ≡ true) ⊎ Knows clock e
     go true is = inr (leb_yes (subst T (sym is) tt))
     go false is = inl (ap not is)
+
+-- a list without its last element
+all_but : {X : Type 0} (xs : List X) (x : X) → take (length xs) (xs ++ x ∷ []) ++ drop (suc (length xs)) (xs ++ x ∷ []) ≡ xs
+all_but [] x = refl
+all_but (y ∷ ys) x = ap (λ zs. y ∷ zs) (all_but ys x)
+
+-- the elements from a place on go one further, and one stands there
+pub shifted : {X : Type 0} (xs : List X) (p : ℕ) (x : X) → p ≤ length xs
+    → slice_set (copy_within (xs ++ x ∷ []) p (length xs) (p + 1)) p x ≡ insert xs p x
+shifted [] zero x within = refl
+shifted [] (suc p) x within = absurd (omega (arith, within))
+shifted (y ∷ ys) zero x within =
+    let one : 1 + length ys ≡ suc (length ys) = omega arith in
+    simp unary_clauses
+    ((λ i. x ∷ y ∷ (take (length ys) (ys ++ x ∷ []) ++ drop (suc (one i)) (y ∷ ys ++ x ∷ []))) ∙ ap (λ zs. x ∷ y ∷ zs) (all_but ys x))
+shifted (y ∷ ys) (suc p) x within =
+    let zs = ys ++ x ∷ [] in
+    let more = length ys - p in
+    let one : suc (suc p) + more ≡ suc (suc p + more) = omega arith in
+    simp unary_clauses
+    ((λ i. y ∷ slice_set ((take (suc p) zs ++ take more (drop p zs)) ++ drop (one i) (y ∷ zs)) p x)
+    ∙ ap (λ zs. y ∷ zs) (simp unary_clauses at (shifted ys p x (omega (arith, within)))))

@@ -3,7 +3,7 @@ use Rattle.std.proofs.Common.{◌≡◌, ◌⊎◌, ◌<◌, ◌≤◌, Bool, tr
 use Rattle.std.proofs.{Common.{inl, inr, arith, IsTrue}, lemmas.Bool.cases_lt}
 use Rattle.std.proofs.lemmas.List.Elements.{Contains-append_left, Contains-push, Contains-push_cases}
 use Rattle.std.specs.List.{Contains}
-use Rattle.race_verdict.specs.declared.notes.Noted.{Noted}
+use Rattle.race_verdict.specs.declared.report.ReportedAccess.{ReportedAccess}
 use Rattle.race_access.specs.{declared.access.Access.Access, Touches.{Touch, IsKnownTo, IsLawful, noted_of}}
 use Rattle.race_access.specs.Kept.{access_of, note_of, Knows, IsGreatestUnknown, KeepsRead}
 use Rattle.race_access.{specs.TouchHolds.{IsCovered, Covers}, proofs.TouchSteps.later}
@@ -29,7 +29,7 @@ module _ (touched : List Touch) (t : Touch) (lawful : IsLawful (touched ++ t ∷
         go (b, inb, keptb, order, under) = known_under a b ina inb under (known (access_of b.stamp b.place) keptb)
 
     -- the greatest one that is kept and isn't known is the greatest of all that it covers
-    pub greatest_of_all : (n : Noted) → IsGreatestUnknown t.clock kept (Some n)
+    pub greatest_of_all : (n : ReportedAccess) → IsGreatestUnknown t.clock kept (Some n)
         → (a : Touch) × Contains touched a × IsTrue (passes a) × (noted_of a ≡ n) × (¬ IsKnownTo a t)
         × ((b : Touch) → Contains touched b → IsTrue (passes b) → ¬ IsKnownTo b t → b.stamp.at ≤ n.at)
     greatest_of_all n (e, kepte, noted, unknown, greatest) = go (covers.real e kepte counted)

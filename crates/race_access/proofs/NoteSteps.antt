@@ -3,7 +3,7 @@ use Rattle.std.proofs.Common.{◌≡◌, ℕ, ◌+◌, true, false, List, length
 use Rattle.race_records.specs.declared.event.{Event.Event, Op.{Op, TheVariants.{Read, Write}}}
 use Rattle.race_model.specs.{Events.is_access, Clocks.participations}
 use Rattle.race_clock.{specs.{declared.stamp.Stamp.Stamp, Stamps.stamp_with, Laws.IsStampIn}, proofs.StampLaws.says}
-use Rattle.race_verdict.specs.{declared.notes.Noted.Noted, Accesses.is_write, Notes.IsNoteOf}
+use Rattle.race_verdict.specs.{declared.report.ReportedAccess.ReportedAccess, Accesses.is_write, Notes.IsNoteOf}
 use Rattle.race_access.specs.{Touches.{Touch, noted_of, IsNotedIn, AreNotedIn}, StampsOf.AreStampsOf}
 
 -- whether an operation with a stamp writes
@@ -21,7 +21,7 @@ no_access at who count (Write y v) none = cc
 no_access at who count _ none = refl
 
 module _ (caps : ℕ → ℕ) (events : List Event) (x : ℕ) (touched : List Touch) (stamps : AreStampsOf caps events x touched) where
-  note_is : (n : Noted) → IsNotedIn touched n → IsNoteOf events n
+  note_is : (n : ReportedAccess) → IsNotedIn touched n → IsNoteOf events n
   note_is n (a, ina, is) = subst (IsNoteOf events) is (go (stamps.each a ina).0)
     where
       go : IsStampIn caps events a.stamp a.clock → IsNoteOf events (noted_of a)
@@ -37,8 +37,8 @@ module _ (caps : ℕ → ℕ) (events : List Event) (x : ℕ) (touched : List To
           }
 
   -- so are both of two
-  pub notes_are : (noted : Option (Noted × Noted)) → AreNotedIn touched noted → (m n : Noted) → noted ≡ Some (m, n) → IsNoteOf events m × IsNoteOf events n
+  pub notes_are : (noted : Option (ReportedAccess × ReportedAccess)) → AreNotedIn touched noted → (m n : ReportedAccess) → noted ≡ Some (m, n) → IsNoteOf events m × IsNoteOf events n
   notes_are None are m n is = cc
   notes_are (Some (a, b)) are m n is =
-      let pair : ◌≡◌ {A = Noted × Noted} (a, b) (m, n) = cc in
-      (subst (IsNoteOf events) (ap (λ (p : Noted × Noted). p.0) pair) (note_is a are.0), subst (IsNoteOf events) (ap (λ (p : Noted × Noted). p.1) pair) (note_is b are.1))
+      let pair : ◌≡◌ {A = ReportedAccess × ReportedAccess} (a, b) (m, n) = cc in
+      (subst (IsNoteOf events) (ap (λ (p : ReportedAccess × ReportedAccess). p.0) pair) (note_is a are.0), subst (IsNoteOf events) (ap (λ (p : ReportedAccess × ReportedAccess). p.1) pair) (note_is b are.1))

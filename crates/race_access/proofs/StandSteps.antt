@@ -11,14 +11,14 @@ use Rattle.race_access.specs.TouchHolds.{Covers, is_write, is_any, CoversAll, Ho
 use Rattle.race_access.proofs.{TouchSteps.{IsPartner, first_race, still_free, race_stays}, KeptSteps.all_known}
 use Rattle.race_access.proofs.{KeptSteps.{greatest_of_all, covers_on, covers_next}, KeepSteps.{only_one, cons_first}}
 use Rattle.race_access.proofs.KeepSteps.{keeps_alone, keeps_under}
-use Rattle.race_verdict.specs.declared.notes.Noted.{Noted}
+use Rattle.race_verdict.specs.declared.report.ReportedAccess.{ReportedAccess}
 
 not_both : true ≡ false → ⊥
 not_both e = cc
 
 module _ (touched : List Touch) (t : Touch) (lawful : IsLawful (touched ++ t ∷ [])) where
   -- what is noted stays so
-  still_noted : (noted : Option (Noted × Noted)) → AreNotedIn touched noted → AreNotedIn (touched ++ t ∷ []) noted
+  still_noted : (noted : Option (ReportedAccess × ReportedAccess)) → AreNotedIn touched noted → AreNotedIn (touched ++ t ∷ []) noted
   still_noted None are = tt
   still_noted (Some (m, n)) ((a, ina, is), (b, inb, isb)) =
       ((a, Contains-append_left touched (t ∷ []) a ina, is), (b, Contains-append_left touched (t ∷ []) b inb, isb))
@@ -44,7 +44,7 @@ module _ (touched : List Touch) (t : Touch) (lawful : IsLawful (touched ++ t ∷
 
   module _ (kept : Kept) (covers : CoversAll touched kept.write kept.reads) where
     -- the first race
-    first_by : (n : Noted) (b : Bool) → t.stamp.write ≡ b → IsGreatestUnknown t.clock (candidates_by b kept) (Some n)
+    first_by : (n : ReportedAccess) (b : Bool) → t.stamp.write ≡ b → IsGreatestUnknown t.clock (candidates_by b kept) (Some n)
         → IsReportedBy (Conflicting (touched ++ t ∷ [])) (Known (touched ++ t ∷ [])) n.at t.stamp.at × IsNotedIn (touched ++ t ∷ []) n
     first_by n true is greatest = go (greatest_of_all touched t lawful is_any (kept.write ∷ kept.reads) covers.all n greatest)
       where
@@ -52,7 +52,7 @@ module _ (touched : List Touch) (t : Touch) (lawful : IsLawful (touched ++ t ∷
             × ((b : Touch) → Contains touched b → IsTrue (is_any b) → ¬ IsKnownTo b t → b.stamp.at ≤ n.at))
             → IsReportedBy (Conflicting (touched ++ t ∷ [])) (Known (touched ++ t ∷ [])) n.at t.stamp.at × IsNotedIn (touched ++ t ∷ []) n
         go (a, ina, passed, noted, unknown, most) =
-            let at : a.stamp.at ≡ n.at = ap (λ (n : Noted). n.at) noted in (
+            let at : a.stamp.at ≡ n.at = ap (λ (n : ReportedAccess). n.at) noted in (
               subst (λ i. IsReportedBy (Conflicting (touched ++ t ∷ [])) (Known (touched ++ t ∷ [])) i t.stamp.at) at
                   (first_race touched t lawful covers.free a (ina, inr is, unknown)
                   (λ b partner. let bound : b.stamp.at ≤ n.at = most b partner.0 refl partner.2 in omega (arith, bound, at))),
@@ -70,7 +70,7 @@ module _ (touched : List Touch) (t : Touch) (lawful : IsLawful (touched ++ t ∷
         )
           where
             at : a.stamp.at ≡ n.at
-            at = ap (λ (n : Noted). n.at) noted
+            at = ap (λ (n : ReportedAccess). n.at) noted
 
             greatest_one : (b : Touch) → IsPartner touched t lawful b → b.stamp.at ≤ a.stamp.at
             greatest_one b (inb, inl writes, un) = let bound : b.stamp.at ≤ n.at = most b inb writes un in omega (arith, bound, at)
@@ -108,7 +108,7 @@ module _ (touched : List Touch) (t : Touch) (lawful : IsLawful (touched ++ t ∷
         alone a (ina, inr wrong, unknown) = never t.stamp.write is wrong
 
   -- the first race
-  pub stands_first : (kept : Kept) → is_some kept.pair ≡ false → (n : Noted) → IsGreatestUnknown t.clock (candidates (access_of t.stamp t.place) kept) (Some n)
+  pub stands_first : (kept : Kept) → is_some kept.pair ≡ false → (n : ReportedAccess) → IsGreatestUnknown t.clock (candidates (access_of t.stamp t.place) kept) (Some n)
       → StandsFor kept touched
       → StandsFor (record { pair = Some (n.at, t.stamp.at); noted = Some (n, noted_of t); write = no_access; reads = [] }) (touched ++ t ∷ [])
   stands_first kept none n greatest stands =

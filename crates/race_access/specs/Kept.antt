@@ -4,12 +4,12 @@ use Rattle.std.specs.{Prelude.{length, Option, Some, None, AllPairs}, Borrow.Bor
 use Rattle.std.specs.{List.Sorted.IsPartitionPoint, Option.option_map}
 use Rattle.race_access.specs.declared.access.Access.{Access}
 use Rattle.race_clock.specs.{ClockState.knows, declared.stamp.Stamp.Stamp}
-use Rattle.race_verdict.specs.declared.notes.Noted.{Noted}
+use Rattle.race_verdict.specs.declared.report.ReportedAccess.{ReportedAccess}
 
 -- the pair of the first race, with what is printed of both; before it the last Write, and Reads
 pub record Kept : Type 0 where
   pub pair : Option (ℕ × ℕ)
-  pub noted : Option (Noted × Noted)
+  pub noted : Option (ReportedAccess × ReportedAccess)
   pub write : Access
   pub reads : List Access
 
@@ -18,11 +18,11 @@ abbrev pub access_of : Stamp → ℕ → Access
 access_of stamp place = record { at = stamp.at; who = stamp.who; count = stamp.count; place = place; write = stamp.write }
 
 -- what is printed of an access
-abbrev pub note_of : Access → Noted
+abbrev pub note_of : Access → ReportedAccess
 note_of e = record { at = e.at; who = e.who; write = e.write; place = e.place }
 
 -- what is printed of the one that was found, if any
-abbrev pub note_found : Option (Bor Access) → Option Noted
+abbrev pub note_found : Option (Bor Access) → Option ReportedAccess
 note_found found = option_map (λ e. note_of e.now) found
 
 -- no access: its count is 0, so every clock knows it
@@ -37,13 +37,13 @@ abbrev pub is_known : List ℕ → Access → Bool
 is_known clock e = nat_le e.count (knows clock e.who)
 
 -- of these the one that the clock doesn't know with the greatest event number
-abbrev pub IsGreatestUnknown : List ℕ → List Access → Option Noted → Type 0
+abbrev pub IsGreatestUnknown : List ℕ → List Access → Option ReportedAccess → Type 0
 IsGreatestUnknown clock kept None = (e : Access) → Contains kept e → Knows clock e
 IsGreatestUnknown clock kept (Some n) =
     (e : Access) × Contains kept e × (note_of e ≡ n) × (¬ Knows clock e) × ((f : Access) → Contains kept f → ¬ Knows clock f → f.at ≤ n.at)
 
 -- the later of two accesses, where there are any
-abbrev pub greater : Option Noted → Option Noted → Option Noted
+abbrev pub greater : Option ReportedAccess → Option ReportedAccess → Option ReportedAccess
 greater None b = b
 greater (Some m) None = Some m
 greater (Some m) (Some n) = Some (if nat_lt m.at n.at then n else m)

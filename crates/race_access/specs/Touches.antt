@@ -2,7 +2,7 @@
 use Rattle.std.specs.{Prelude.{ℕ, ◌≡◌, ◌≢◌, ◌<◌, ◌⊎◌, ⊤, IsTrue, List, Option, Some, None, slice_get}, List.Contains}
 use Rattle.race_model.specs.Race.{RaceBy, IsReportedBy}
 use Rattle.race_clock.specs.{declared.stamp.Stamp.Stamp, Laws.IsKnown}
-use Rattle.race_verdict.specs.declared.notes.Noted.{Noted}
+use Rattle.race_verdict.specs.declared.report.ReportedAccess.{ReportedAccess}
 
 -- an access of the variable: its stamp, the number of its place, and the clock of its goroutine behind it
 pub record Touch : Type 0 where
@@ -42,18 +42,18 @@ IsReported touched None = (i j : ℕ) → ¬ RaceBy (Conflicting touched) (Known
 IsReported touched (Some (i, j)) = IsReportedBy (Conflicting touched) (Known touched) i j
 
 -- what is printed of a touch
-abbrev pub noted_of : Touch → Noted
+abbrev pub noted_of : Touch → ReportedAccess
 noted_of a = record { at = a.stamp.at; who = a.stamp.who; write = a.stamp.write; place = a.place }
 
 -- it is noted of one of the touches
-abbrev pub IsNotedIn : List Touch → Noted → Type 0
+abbrev pub IsNotedIn : List Touch → ReportedAccess → Type 0
 IsNotedIn touched n = (a : Touch) × Contains touched a × (noted_of a ≡ n)
 
 -- so are both, where there are two
-abbrev pub AreNotedIn : List Touch → Option (Noted × Noted) → Type 0
+abbrev pub AreNotedIn : List Touch → Option (ReportedAccess × ReportedAccess) → Type 0
 AreNotedIn touched None = ⊤
 AreNotedIn touched (Some (m, n)) = IsNotedIn touched m × IsNotedIn touched n
 
 -- the indexes of two that are noted
-abbrev pub pair_noted : Noted × Noted → ℕ × ℕ
+abbrev pub pair_noted : ReportedAccess × ReportedAccess → ℕ × ℕ
 pair_noted p = (p.0.at, p.1.at)

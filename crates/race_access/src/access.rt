@@ -3,7 +3,7 @@ ghost use Rattle.std.specs.Prelude.{◌≡◌, ◌↔◌, IsTrue};
 ghost use Rattle.race_access.specs.Kept.{access_of, note_of, is_known, Knows};
 
 use race_clock::{Clock, Stamp};
-use race_verdict::Noted;
+use race_verdict::ReportedAccess;
 use std::alloc::Allocator;
 
 /// An access of a variable.
@@ -46,10 +46,10 @@ impl Access {
     }
 
     /// What is printed of it.
-    pub(crate) fn note(&self) -> Noted
+    pub(crate) fn note(&self) -> ReportedAccess
         ensures { result ≡ note_of self.now }
     {
-        Noted {
+        ReportedAccess {
             at: self.at,
             who: self.who,
             write: self.write,

@@ -1,12 +1,12 @@
 //! What is kept of a variable's accesses.
-ghost use Rattle.std.specs.Prelude.{◌≡◌, ◌≤◌, ◌∷◌, [], false, not, filter, length, vec_capacity, All, ◌≢◌, IfOk, OnOk};
+ghost use Rattle.std.specs.Prelude.{◌≡◌, ◌≤◌, ◌<◌, ◌∷◌, [], false, not, filter, insert, length, vec_capacity, All, ◌≢◌, IfOk, OnOk};
 ghost use Rattle.std.specs.{Prelude.{OnErr, IsTrue}, Option.is_some};
 ghost use Rattle.race_access.specs.KeptOf.{kept_of};
 ghost use Rattle.race_access.specs.Kept as spec;
 
 use crate::access::Access;
 use race_clock::Clock;
-use race_verdict::Noted;
+use race_verdict::ReportedAccess;
 use std::alloc::{AllocError, Allocator};
 
 // So many Reads are looked at one by one.
@@ -33,9 +33,9 @@ pub(crate) enum Accesses<A: Allocator> {
     /// The pair of the first race.
     Raced {
         /// The earlier access.
-        first: Noted,
+        first: ReportedAccess,
         /// The later one.
-        second: Noted,
+        second: ReportedAccess,
     },
 }
 
@@ -99,7 +99,7 @@ impl<A: Allocator> Accesses<A> {
         }
     }
 
-    pub(crate) fn noted(&self) -> Option<(Noted, Noted)>
+    pub(crate) fn noted(&self) -> Option<(ReportedAccess, ReportedAccess)>
         ensures { result ≡ (kept_of self.now).noted }
     {
         match self {
@@ -247,10 +247,23 @@ fn keep_read<A: Allocator, B: Allocator>(
         return Ok(());
     }
     if reads.len() < reads.capacity() {
-        reads.insert(place, access)?;
+        put_at(reads, place, access);
         return Ok(());
     }
     keep_first(reads, access, clock)
+}
+
+// Puts the Read at the place, where there is room. `Vec::insert` is a call, and hands the Read on in memory.
+#[inline(always)]
+fn put_at<A: Allocator>(reads: &mut Vec<Access, A>, place: usize, access: Access)
+    requires within { place ≤ length reads.old.items }
+    requires room { length reads.old.items < vec_capacity reads.old }
+    ensures { reads.new.items ≡ insert reads.old.items place access }
+{
+    let end = reads.len();
+    reads.push_reserved(access);
+    reads.copy_within(place..end, place + 1);
+    reads[place] = access;
 }
 
 // Keeps the first Read of a goroutine where there is no room for one more.

@@ -11,7 +11,7 @@ ghost use Rattle.race_access.specs.{TouchHolds.{StandsFor, GoesOn}, Kept.AreRisi
 use crate::access::Access;
 use crate::accesses::Accesses;
 use race_clock::{Clock, Stamp};
-use race_verdict::Noted;
+use race_verdict::ReportedAccess;
 use std::alloc::{AllocError, Allocator, Global};
 use std::marker::Model;
 
@@ -98,7 +98,7 @@ impl<A: Allocator + Copy> VarState<A> {
     }
 
     /// The same race, with what is printed of each of its two accesses.
-    pub fn noted(&self) -> Option<(Noted, Noted)>
+    pub fn noted(&self) -> Option<(ReportedAccess, ReportedAccess)>
         ensures noted { (touched : List Touch) → StandsFor self.now touched
             → AreNotedIn touched result }
         ensures pair { option_map pair_noted result ≡ self.now.pair }

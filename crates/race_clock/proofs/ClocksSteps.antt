@@ -12,7 +12,7 @@ use Rattle.race_model.specs.{Order.Reaches, Clocks.{participations, CountsBegins
 use Rattle.race_model.proofs.ClockSteps.{Handed, CountsAt, counts_seen_from, counts_before, counts_at_begin}
 use Rattle.race_model.proofs.{ClockSteps.{counts_alone, counts_pair, counts_other}, Reaching.who_takes_part}
 use Rattle.race_model.proofs.{ClockLemmas.{one_if, participations_push, counts_like, max_within}, SourceSteps.from_none}
-use Rattle.race_clock.specs.{ClockState.{knows, joined, with_count}, ClocksState.{SlotState, ClocksState, no_slot}}
+use Rattle.race_clock.specs.{ClockState.{knows, joined, with_count}, ClocksState.{ThreadClockState, ClocksState, no_slot}}
 use Rattle.race_clock.specs.ClocksState.{no_channel, no_lock, slot_of, next_slot, both_seen, met, clock_of, parts_of}
 use Rattle.race_clock.specs.ClocksState.{channel_of, lock_of, end_of, begin_of, handed, channels_after, locks_after}
 use Rattle.race_clock.specs.ClocksState.{ends_after, acted, paired, after, channel_sent, channel_received}
@@ -49,7 +49,7 @@ replaced P xs d v z here others g less = elim (cases_eq d g) [
     at same = omega (arith, same, within)
 
 -- a goroutine's clock and count are right
-record IsSlot (caps : ℕ → ℕ) (past : List Event) (g : ℕ) (s : SlotState) : Type 0 where
+record IsThreadClock (caps : ℕ → ℕ) (past : List Event) (g : ℕ) (s : ThreadClockState) : Type 0 where
   wide : g < length s.clock
   parts : s.parts ≡ participations g past
   clock : CountsSeen caps past g (knows s.clock)
@@ -189,10 +189,10 @@ module _ (caps : ℕ → ℕ) (k : ClocksState) (past : List Event) (S : ClocksS
 
     -- a goroutine that takes part, with the clock that it gets, and one that doesn't
     slot_next : (g : ℕ) (c : List ℕ) → g < length k.slots → IsTrue (takes_part g e) → g < length c → CountsSeen caps (past ++ e ∷ []) g (knows c)
-        → IsSlot caps (past ++ e ∷ []) g (next_slot k g c)
+        → IsThreadClock caps (past ++ e ∷ []) g (next_slot k g c)
     slot_next g c less is long seen = record { wide = long; parts = parts_more g less is; clock = seen }
 
-    slot_same : (g : ℕ) → g < length k.slots → takes_part g e ≡ false → IsSlot caps (past ++ e ∷ []) g (slot_of k g)
+    slot_same : (g : ℕ) → g < length k.slots → takes_part g e ≡ false → IsThreadClock caps (past ++ e ∷ []) g (slot_of k g)
     slot_same g less none = record {
       wide = S.wide g less;
       parts = parts_same g less none;
@@ -213,8 +213,8 @@ module _ (caps : ℕ → ℕ) (k : ClocksState) (past : List Event) (S : ClocksS
     }
       where
         slots : (g : ℕ) → g < length (set k.slots e.who (next_slot k e.who c))
-            → IsSlot caps (past ++ e ∷ []) g (get_or (set k.slots e.who (next_slot k e.who c)) g no_slot)
-        slots = replaced (IsSlot caps (past ++ e ∷ [])) k.slots e.who (next_slot k e.who c) no_slot
+            → IsThreadClock caps (past ++ e ∷ []) g (get_or (set k.slots e.who (next_slot k e.who c)) g no_slot)
+        slots = replaced (IsThreadClock caps (past ++ e ∷ [])) k.slots e.who (next_slot k e.who c) no_slot
             (λ less. slot_next e.who c less (who_takes_part e) long new) (λ g less differ. slot_same g less (sole_part g none differ))
 
         own : CountsAt caps (past ++ e ∷ []) (length past) e.who (knows (begin_of k e.who))
@@ -245,14 +245,14 @@ module _ (caps : ℕ → ℕ) (k : ClocksState) (past : List Event) (S : ClocksS
       where
         -- all but the second
         first_slots : (g : ℕ) → g < length (set k.slots e.who (next_slot k e.who c)) → h ≢ g
-            → IsSlot caps (past ++ e ∷ []) g (get_or (set k.slots e.who (next_slot k e.who c)) g no_slot)
-        first_slots = replaced (λ g s. h ≢ g → IsSlot caps (past ++ e ∷ []) g s) k.slots e.who (next_slot k e.who c) no_slot
+            → IsThreadClock caps (past ++ e ∷ []) g (get_or (set k.slots e.who (next_slot k e.who c)) g no_slot)
+        first_slots = replaced (λ g s. h ≢ g → IsThreadClock caps (past ++ e ∷ []) g s) k.slots e.who (next_slot k e.who c) no_slot
             (λ less apart. slot_next e.who c less (who_takes_part e) long (first apart))
             (λ g less differ apart. slot_same g less (others_part h g two differ apart))
 
         slots : (g : ℕ) → g < length (set (set k.slots e.who (next_slot k e.who c)) h (next_slot k h d))
-            → IsSlot caps (past ++ e ∷ []) g (get_or (set (set k.slots e.who (next_slot k e.who c)) h (next_slot k h d)) g no_slot)
-        slots = replaced (IsSlot caps (past ++ e ∷ [])) (set k.slots e.who (next_slot k e.who c)) h (next_slot k h d) no_slot
+            → IsThreadClock caps (past ++ e ∷ []) g (get_or (set (set k.slots e.who (next_slot k e.who c)) h (next_slot k h d)) g no_slot)
+        slots = replaced (IsThreadClock caps (past ++ e ∷ [])) (set k.slots e.who (next_slot k e.who c)) h (next_slot k h d) no_slot
             (λ less. slot_next h d beside (second_part h two) wide_enough second) first_slots
 
     -- the clock of a goroutine that acts alone: right where it is, of all others, what the begin knew or the objects hand over
@@ -447,9 +447,9 @@ module _ (caps : ℕ → ℕ) (k : ClocksState) (past : List Event) (S : ClocksS
 clock_after_access : (k : ClocksState) (who : ℕ) (o : Op) → who < length k.slots → IsTrue (is_access o)
     → clock_of (after k who o) who ≡ with_count (clock_of k who) who (parts_of k who)
 clock_after_access k who (Read x v) less is =
-    ap (λ (s : SlotState). s.clock) (get_or-set_same k.slots who (next_slot k who (with_count (clock_of k who) who (parts_of k who))) no_slot less)
+    ap (λ (s : ThreadClockState). s.clock) (get_or-set_same k.slots who (next_slot k who (with_count (clock_of k who) who (parts_of k who))) no_slot less)
 clock_after_access k who (Write x v) less is =
-    ap (λ (s : SlotState). s.clock) (get_or-set_same k.slots who (next_slot k who (with_count (clock_of k who) who (parts_of k who))) no_slot less)
+    ap (λ (s : ThreadClockState). s.clock) (get_or-set_same k.slots who (next_slot k who (with_count (clock_of k who) who (parts_of k who))) no_slot less)
 clock_after_access k who _ less is = cc
 
 -- counts what reaches it

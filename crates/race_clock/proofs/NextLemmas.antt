@@ -6,7 +6,7 @@ use Rattle.race_records.specs.declared.event.{Event.Event, Op.{Op, TheVariants.{
 use Rattle.race_records.specs.declared.event.Op.TheVariants.{Close, Lock, Unlock, RLock, RUnlock, TryLock, TryRLock}
 use Rattle.race_records.specs.declared.{event.Op.TheVariants.{OnceEnd, OnceDone}, kind.Kind.Kind}
 use Rattle.race_records.specs.{declared.trace.TheConstants.MAX_EVENTS, Declarations.{Declaration, count_of, counts_of}}
-use Rattle.race_records.specs.{Declarations.capacity_of, Parts.op_is_in_range}
+use Rattle.race_records.specs.{Declarations.capacity_of, Operands.op_is_in_range}
 use Rattle.race_model.specs.{Events.{takes_part, has_exited, count, sends, receives}, State.{started, runs, buffered}}
 use Rattle.race_model.specs.{Legal.{op_rules, rules, actors_run, receiver_runs}, Clocks.participations}
 use Rattle.race_model.proofs.ChannelOrder.{rules_kept}

@@ -8,7 +8,7 @@ use Rattle.race_records.specs.declared.{event.Op.Op, kind.Kind.Kind}
 use Rattle.race_records.specs.Declarations.{Declaration, count_of, capacity_of}
 use Rattle.race_model.{specs.{Known.SeenBy, Clocks.{CountsSeen, CountsFrom}}, proofs.SeenSteps.seen_none}
 use Rattle.race_model.proofs.{ClockLemmas.counts_none, SourceSteps.from_none}
-use Rattle.race_clock.specs.{ClockState.{knows, padded}, ClocksState.{ChannelState, SlotState, ClocksState, no_slot}}
+use Rattle.race_clock.specs.{ClockState.{knows, padded}, ClocksState.{ChannelState, ThreadClockState, ClocksState, no_slot}}
 use Rattle.race_clock.specs.ClocksState.{no_channel, no_lock, slot_of, channel_of, lock_of, end_of, first_slot}
 use Rattle.race_clock.specs.{ClocksState.first_slots, First.IsFirst}
 use Rattle.race_clock.specs.StandsFor.{StandsForChannel, StandsForLock, StandsFor}
@@ -62,10 +62,10 @@ module _ (declarations : List Declaration) (k : ClocksState) where
     all_locks = ap length first.locks ∙ length-replicate (count_of Kind.Lock declarations) no_lock;
     all_onces = ap length first.ends ∙ length-replicate {A = List ℕ} (count_of Kind.Once declarations) [];
     clocks = record {
-      wide = λ g less. subst (λ (s : SlotState). g < length s.clock) (sym (slot_of_first g less)) (long_enough [] g);
-      all_parts = λ g less. ap (λ (s : SlotState). s.parts) (slot_of_first g less);
+      wide = λ g less. subst (λ (s : ThreadClockState). g < length s.clock) (sym (slot_of_first g less)) (long_enough [] g);
+      all_parts = λ g less. ap (λ (s : ThreadClockState). s.parts) (slot_of_first g less);
       all_clocks = λ g less.
-          subst (λ (s : SlotState). CountsSeen caps [] g (knows s.clock)) (sym (slot_of_first g less))
+          subst (λ (s : ThreadClockState). CountsSeen caps [] g (knows s.clock)) (sym (slot_of_first g less))
           (counts_none [] _ (λ i h. SeenBy caps [] i h g) (own g) (λ i h seen. seen_none caps i h g seen));
       all_channels = λ c less. subst (StandsForChannel caps [] c) (sym (first.each_channel c less)) (record {
         room = refl;
@@ -87,7 +87,7 @@ module _ (declarations : List Declaration) (k : ClocksState) where
 
       slot_of_first : (g : ℕ) → g < length k.slots → slot_of k g ≡ first_slot g
       slot_of_first g less =
-          ap (λ (ss : List SlotState). get_or ss g no_slot) first.slots
+          ap (λ (ss : List ThreadClockState). get_or ss g no_slot) first.slots
           ∙ slot_at (count_of Kind.Goroutine declarations) g (omega (arith, less, ap length first.slots, length_slots (count_of Kind.Goroutine declarations)))
 
       lock_at : (l : ℕ) → l < length k.locks → lock_of k.locks l ≡ no_lock

@@ -21,21 +21,21 @@ pub record LockState : Type 0 where
   pub runlocks : List ℕ
 
 -- of a goroutine: its clock, and how many events it took part in
-pub record SlotState : Type 0 where
+pub record ThreadClockState : Type 0 where
   pub clock : List ℕ
   pub parts : ℕ
 
 -- all clocks
 pub record ClocksState : Type 0 where
   -- by goroutine
-  pub slots : List SlotState
+  pub slots : List ThreadClockState
   pub channels : List ChannelState
   pub locks : List LockState
   -- by once: the clock of its end
   pub ends : List (List ℕ)
 
 -- a goroutine, a channel and a lock that nothing is known of
-abbrev pub no_slot : SlotState
+abbrev pub no_slot : ThreadClockState
 no_slot = record { clock = []; parts = 0 }
 
 abbrev pub no_channel : ChannelState
@@ -45,7 +45,7 @@ abbrev pub no_lock : LockState
 no_lock = record { unlocks = []; last = []; runlocks = [] }
 
 -- the entry of a number
-abbrev pub slot_of : ClocksState → ℕ → SlotState
+abbrev pub slot_of : ClocksState → ℕ → ThreadClockState
 slot_of k g = slice_index_or k.slots g no_slot
 
 abbrev pub clock_of : ClocksState → ℕ → List ℕ
@@ -144,7 +144,7 @@ ends_after es (OnceEnd o) b = slice_set es o (joined (end_of es o) b)
 ends_after es _ b = es
 
 -- a goroutine behind one event more, with this clock
-abbrev pub next_slot : ClocksState → ℕ → List ℕ → SlotState
+abbrev pub next_slot : ClocksState → ℕ → List ℕ → ThreadClockState
 next_slot k g c = record { clock = c; parts = parts_of k g + 1 }
 
 -- two goroutines behind an event that both take part in
@@ -188,10 +188,10 @@ abbrev pub filled : List (List ℕ) → List ℕ → List (List ℕ)
 filled queue c = slice_set queue (length queue - 1) c
 
 -- before the first event
-abbrev pub first_slot : ℕ → SlotState
+abbrev pub first_slot : ℕ → ThreadClockState
 first_slot g = record { clock = padded [] (g + 1); parts = 0 }
 
-abbrev pub first_slots : ℕ → List SlotState
+abbrev pub first_slots : ℕ → List ThreadClockState
 first_slots zero = []
 first_slots (suc n) = first_slots n ++ first_slot n ∷ []
 

@@ -9,8 +9,8 @@ ghost use Rattle.race_clock.specs.{ClockState.joined, ClocksState.{ChannelState,
 ghost use Rattle.race_clock.specs.ClocksState.{filled};
 
 use crate::clock::Clock;
-use crate::kept::Kept;
-use crate::slot::Slot;
+use crate::sync_clock::SyncClock;
+use crate::thread_clock::ThreadClock;
 use std::alloc::{AllocError, Allocator};
 use std::collections::VecDeque;
 use std::marker::Model;
@@ -102,7 +102,7 @@ pub(crate) struct Channel<A: Allocator> {
     capacity: usize,
     // Made at the first send.
     queues: Option<Box<Queues<A>, A>>,
-    pub(crate) closed: Kept<A>,
+    pub(crate) closed: SyncClock<A>,
 }
 
 impl<A: Allocator> Model for Channel<A> {
@@ -124,7 +124,7 @@ impl<A: Allocator + Copy> Channel<A> {
         Channel {
             capacity,
             queues: None,
-            closed: Kept::new(),
+            closed: SyncClock::new(),
         }
     }
 
@@ -167,7 +167,7 @@ impl<A: Allocator + Copy> Channel<A> {
     }
 
     /// Joins the clock of the close to that of who finds the channel closed.
-    pub(crate) fn receive_closed(&self, slot: &mut Slot<A>) -> Result<(), AllocError>
+    pub(crate) fn receive_closed(&self, slot: &mut ThreadClock<A>) -> Result<(), AllocError>
         requires { slot.old.parts + 1 < 2 ^ 32 }
         ensures ok { OnOk result (slot.new ≡ record { clock = joined slot.old.clock self.now.closed; parts = slot.old.parts + 1 }) }
         ensures unchanged { OnErr result (slot.new ≡ slot.old) }

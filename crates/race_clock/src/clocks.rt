@@ -14,18 +14,18 @@ ghost use Rattle.race_clock.specs.ClocksState as spec;
 
 use crate::channel::Channel;
 use crate::clock::Clock;
-use crate::kept::Kept;
-use crate::lock::LockClocks;
-use crate::slot::Slot;
+use crate::lock::LockClock;
+use crate::sync_clock::SyncClock;
+use crate::thread_clock::ThreadClock;
 use race_records::{Decls, Kind, Op};
 use std::alloc::{AllocError, Allocator};
 use std::marker::Model;
 
 pub(crate) struct Clocks<A: Allocator> {
-    slots: Vec<Slot<A>, A>,
+    slots: Vec<ThreadClock<A>, A>,
     channels: Vec<Channel<A>, A>,
-    locks: Vec<LockClocks<A>, A>,
-    ends: Vec<Kept<A>, A>,
+    locks: Vec<LockClock<A>, A>,
+    ends: Vec<SyncClock<A>, A>,
     // Free to be written.
     spare: Clock<A>,
     second: Clock<A>,
@@ -54,12 +54,12 @@ impl<A: Allocator> Model for Clocks<A> {
 fn first_slots<A: Allocator + Copy>(
     alloc: A,
     goroutines: u32,
-) -> Result<Vec<Slot<A>, A>, AllocError>
+) -> Result<Vec<ThreadClock<A>, A>, AllocError>
     ensures { IfOk result (λ slots. slots.items ≡ spec.first_slots goroutines) }
 {
     let mut slots = Vec::new(alloc);
     for who in 0..goroutines {
-        slots.push(Slot::new(alloc, who)?)?;
+        slots.push(ThreadClock::new(alloc, who)?)?;
     }
     Ok(slots)
 }
@@ -84,23 +84,26 @@ fn first_channels<A: Allocator + Copy, B: Allocator>(
 fn first_locks<A: Allocator + Copy>(
     alloc: A,
     locks: usize,
-) -> Result<Vec<LockClocks<A>, A>, AllocError>
+) -> Result<Vec<LockClock<A>, A>, AllocError>
     ensures { IfOk result (λ clocks. clocks.items ≡ replicate locks spec.no_lock) }
 {
     let mut clocks = Vec::new(alloc);
     for _ in 0..locks {
-        clocks.push(LockClocks::new())?;
+        clocks.push(LockClock::new())?;
     }
     Ok(clocks)
 }
 
 // So many clocks that know nothing.
-fn first_ends<A: Allocator + Copy>(alloc: A, onces: usize) -> Result<Vec<Kept<A>, A>, AllocError>
+fn first_ends<A: Allocator + Copy>(
+    alloc: A,
+    onces: usize,
+) -> Result<Vec<SyncClock<A>, A>, AllocError>
     ensures { IfOk result (λ clocks. clocks.items ≡ replicate onces []) }
 {
     let mut clocks = Vec::new(alloc);
     for _ in 0..onces {
-        clocks.push(Kept::new())?;
+        clocks.push(SyncClock::new())?;
     }
     Ok(clocks)
 }

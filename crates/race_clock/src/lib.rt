@@ -5,12 +5,12 @@ mod channel;
 mod clock;
 mod clocks;
 mod fits;
-mod kept;
 pub mod laws;
 mod lock;
-mod slot;
 mod stamp;
 mod stamper;
+mod sync_clock;
+mod thread_clock;
 
 pub use clock::Clock;
 pub use fits::Fits;

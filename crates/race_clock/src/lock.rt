@@ -4,7 +4,7 @@ ghost use Rattle.race_clock.specs.{ClockState.joined, ClocksState.{LockState, no
 ghost use Rattle.race_clock.specs.UnlocksState.{UnlocksState};
 
 use crate::clock::Clock;
-use crate::kept::Kept;
+use crate::sync_clock::SyncClock;
 use std::alloc::{AllocError, Allocator};
 use std::marker::Model;
 use std::mem;
@@ -23,12 +23,12 @@ impl<A: Allocator> Model for Unlocks<A> {
 }
 
 #[derive(Drop)]
-pub(crate) struct LockClocks<A: Allocator> {
+pub(crate) struct LockClock<A: Allocator> {
     unlocks: Option<Box<Unlocks<A>, A>>,
-    pub(crate) runlocks: Kept<A>,
+    pub(crate) runlocks: SyncClock<A>,
 }
 
-impl<A: Allocator> Model for LockClocks<A> {
+impl<A: Allocator> Model for LockClock<A> {
     ghost Value = { LockState };
 
     ghost view = { λ k. record {
@@ -38,14 +38,14 @@ impl<A: Allocator> Model for LockClocks<A> {
     } };
 }
 
-impl<A: Allocator + Copy> LockClocks<A> {
+impl<A: Allocator + Copy> LockClock<A> {
     /// A lock that nobody has unlocked.
-    pub(crate) fn new() -> LockClocks<A>
+    pub(crate) fn new() -> LockClock<A>
         ensures { result ≡ no_lock }
     {
-        LockClocks {
+        LockClock {
             unlocks: None,
-            runlocks: Kept::new(),
+            runlocks: SyncClock::new(),
         }
     }
 

@@ -6,8 +6,8 @@ use Rattle.clap.specs.{declared.error.Error.Error, Values.kind_of}
 use Rattle.race_records.specs.declared.{source.Source.Source, sink.Sink.Sink}
 use Rattle.race_command.specs.{declared.command.Request.Request, Ending.{Does, Declines, Ends, answer_without_words}}
 use Rattle.race_command.specs.Request.{is_in_limits}
-use Rattle.race_tool.specs.declared.{check.CheckOptions.CheckOptions, run_engine.RunOptions.RunOptions}
-use Rattle.race_tool.specs.{Engines.Judges, Outcome.are_in_limits, Options.{are_run_limits, picks_asked}}
+use Rattle.race_tool.specs.declared.{check.CheckOptions.CheckOptions, run.RunOptions.RunOptions}
+use Rattle.race_tool.specs.{Outcome.are_in_limits, Options.{are_run_limits, picks_asked}, Race.Judges}
 use Rattle.std.specs.declared.io.ErrorKind.TheVariants as io
 use Rattle.clap.specs.declared.error.kind.ErrorKind.TheVariants as kind
 
@@ -41,7 +41,7 @@ module _ {R W : Type 0} (remaining : R → Option (List ℕ)) (contents : W → 
   -- a run that is judged as was asked
   pub judges_as_asked : {request : Result Request Error} {asked : Request} {run : RunOptions Global} {check : CheckOptions}
       → request ≡ Ok asked → asked ≡ Request.Race run check
-      → Judges run.limit (picks_asked run) check.plain remaining contents source source_now sink sink_now answer
+      → Judges Global run.limit (picks_asked run) check.plain remaining contents source source_now sink sink_now answer
       → IfOk request (λ asked. Does asked remaining contents source source_now sink sink_now answer)
   judges_as_asked is race judges =
       subst (λ r. IfOk r (λ asked. Does asked remaining contents source source_now sink sink_now answer)) (sym is)

@@ -1,10 +1,12 @@
 -- How the program ends: with which status, and what was read and written.
 use Rattle.std.specs.Prelude.{◌≡◌, ◌⊎◌, ◌==◌, ℕ, IsTrue, if◌then◌else◌, List, Option, Some, None, codes}
+use Rattle.std.specs.declared.alloc.Global.{Global}
 use Rattle.std.specs.{Option.option_map, String.string_bytes, declared.{io.{ErrorKind.{ErrorKind as IoErrorKind}}}}
 use Rattle.clap.specs.declared.error.kind.ErrorKind.{ErrorKind}
 use Rattle.race_records.specs.declared.{source.Source.Source, sink.Sink.Sink}
 use Rattle.race_command.specs.{declared.command.Request.Request, Request.is_in_limits}
-use Rattle.race_tool.specs.{Engines.{Checks, Lists, Runs, Judges}, Options.picks_asked, Witnesses.Shows, Drawings.Draws}
+use Rattle.race_tool.specs.{Draw.Draws, Edges.Lists, Finding.Checks, Options.picks_asked, Race.Judges, Run.Runs}
+use Rattle.race_tool.specs.Witness.{Shows}
 use Rattle.std.specs.declared.io.ErrorKind.TheVariants as io
 use Rattle.clap.specs.declared.error.kind.ErrorKind.TheVariants as kind
 use Rattle.race_tool.specs.declared.status.TheConstants as status
@@ -13,15 +15,15 @@ use Rattle.race_tool.specs.declared.status.TheConstants as status
 abbrev pub Does : {R W : Type 0} → Request → (R → Option (List ℕ)) → (W → Option (List ℕ)) → Source R → Source R → Sink W → Sink W → ℕ → Type 0
 Does (Request.Check options) remaining contents source source_now sink sink_now answer =
     Checks options.plain remaining contents source source_now sink sink_now answer
-Does Request.Edges remaining contents source source_now sink sink_now answer = Lists remaining contents source source_now sink sink_now answer
+Does Request.Edges remaining contents source source_now sink sink_now answer = Lists Global remaining contents source source_now sink sink_now answer
 Does (Request.Run options) remaining contents source source_now sink sink_now answer =
     Runs options.limit (picks_asked options) remaining contents source source_now sink sink_now answer
 Does (Request.Race run check) remaining contents source source_now sink sink_now answer =
-    Judges run.limit (picks_asked run) check.plain remaining contents source source_now sink sink_now answer
+    Judges Global run.limit (picks_asked run) check.plain remaining contents source source_now sink sink_now answer
 Does (Request.Witness name) remaining contents source source_now sink sink_now answer =
-    Shows (string_bytes name) remaining contents source source_now sink sink_now answer
+    Shows Global (string_bytes name) remaining contents source source_now sink sink_now answer
 Does (Request.Draw name svg) remaining contents source source_now sink sink_now answer =
-    Draws (option_map string_bytes name) svg remaining contents source source_now sink sink_now answer
+    Draws Global (option_map string_bytes name) svg remaining contents source source_now sink sink_now answer
 
 -- the status where the words ask for no work: help or the version was printed or couldn't be, memory was refused, or else they are at fault
 abbrev pub IsAnswerTo : ErrorKind → ℕ → Type 0

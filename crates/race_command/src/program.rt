@@ -2,7 +2,7 @@
 ghost use Rattle.std.specs.{Prelude.{◌≡◌, IsTrue, IfOk, IfErr, option_map}, IoError.error_kind, Process.exit_status};
 ghost use Rattle.std.specs.String.{string_bytes};
 ghost use Rattle.clap.specs.Values.{kind_of};
-ghost use Rattle.race_tool.specs.Drawings.{Draws};
+ghost use Rattle.race_tool.specs.Draw.{Draws};
 ghost use Rattle.race_command.specs.Ending.{Does, Declines, Ends, IsAnswerTo, answer_without_words, message_of};
 ghost use Rattle.race_command.specs.Request.{is_in_limits};
 ghost use Rattle.std.specs.declared.io.ErrorKind.TheVariants as io;
@@ -117,7 +117,7 @@ fn draw<R: Read, W: Write>(
     name: &Option<String>,
     svg: bool,
 ) -> u8
-    ensures { Draws (option_map string_bytes name.now) svg R.remaining W.contents
+    ensures { Draws Global (option_map string_bytes name.now) svg R.remaining W.contents
         source.old source.new sink.old sink.new result }
 {
     match name {

@@ -4,7 +4,7 @@ use Rattle.std.proofs.{Common.{drop, sym, subst, ap, ◌∙◌, arith}, lemmas.L
 use Rattle.std.proofs.lemmas.List.FromFn.{get_or-range_with_len, length-range_with_len}
 use Rattle.std.specs.List.{filter, range_with_len}
 use Rattle.race_records.specs.{declared.kind.Kind.Kind, Declarations.count_of, Events.TraceState}
-use Rattle.race_edges.specs.declared.listing.Edge.{Edge}
+use Rattle.race_edges.specs.declared.edge_list.Edge.{Edge}
 use Rattle.race_draw.specs.declared.clean.{Strand.Strand, TheConstants.MAX_COLUMNS}
 use Rattle.race_draw.specs.{Clean.{CleanState, strands_behind, lane_of}, Chart.CanBeCharted}
 use Rattle.race_draw.proofs.LayoutLemmas.{below}

@@ -7,7 +7,7 @@ use Rattle.race_model.proofs.Indexes.{at_same, push_at}
 use Rattle.race_records.specs.Events.{TraceState, IsTrace}
 use Rattle.race_verdict.specs.{declared.races.Race.Race, Races.race_of, Traces.capacities}
 use Rattle.race_verdict.proofs.RangeLemmas.{race_declared}
-use Rattle.race_edges.specs.{declared.listing.Edge.Edge, Edges.IsEdge}
+use Rattle.race_edges.specs.{declared.edge_list.Edge.Edge, Edges.IsEdge}
 use Rattle.race_report.specs.Printable.{IsOf}
 use Rattle.race_shards.specs.{Seen.IsLastSeen, Witness.RacesInOrder}
 use Rattle.race_draw.specs.{declared.arrow.Arrow.Arrow, Layout.{LayoutState, IsLayoutOf, AreListed, is_shown, rows_of}}

@@ -2,7 +2,7 @@
 use Rattle.std.proofs.Common.{◌≡◌, ℕ, ◌<◌, List, [], ◌∷◌, ◌++◌, All, Some, slice_get, sym, subst, append-nil}
 use Rattle.std.proofs.lemmas.{List.append_assoc, Option.{slice_get_within, get_or_from_slice_get}}
 use Rattle.race_records.specs.declared.event.Event.{Event}
-use Rattle.race_edges.specs.{declared.listing.Edge.Edge, Edges.IsEdge}
+use Rattle.race_edges.specs.{declared.edge_list.Edge.Edge, Edges.IsEdge}
 use Rattle.race_draw.specs.Layout.{IsWay}
 
 -- what is read of a list of edges is one

@@ -3,7 +3,7 @@
 use Rattle.std.specs.Prelude.{ℕ, if◌then◌else◌, ◌==◌, ◌&&◌, nat_lt, nat_le, Bool, false, List, ◌++◌, codes}
 use Rattle.std.specs.List.{list_any}
 use Rattle.race_records.specs.declared.event.Op.{Op, TheVariants.{Read, Write}}
-use Rattle.race_edges.specs.declared.listing.Edge.{Edge}
+use Rattle.race_edges.specs.declared.edge_list.Edge.{Edge}
 use Rattle.race_draw.specs.declared.{arrow.{Arrow.Arrow, Lane.Lane}, cells.{Column.Column, Mark.Mark, Line.Line}}
 
 -- the column of a goroutine

@@ -3,7 +3,7 @@
 use Rattle.std.specs.Prelude.{ℕ, ◌≡◌, if◌then◌else◌, ◌==◌, ◌&&◌, ◌||◌, not, nat_lt, nat_le, Bool, false, List, [], ◌∷◌}
 use Rattle.std.specs.{Prelude.{◌++◌, length, take, Option, Some, None}, List.{filter, find, list_any, range_with_len}}
 use Rattle.race_records.specs.{declared.{event.Event.Event, kind.Kind.Kind}, Declarations.count_of, Events.TraceState}
-use Rattle.race_edges.specs.declared.listing.Edge.{Edge}
+use Rattle.race_edges.specs.declared.edge_list.Edge.{Edge}
 use Rattle.race_draw.specs.{declared.clean.{Strand.Strand, TheConstants.{MAX_COLUMNS, MAX_LANES}}, Layout.AreListed}
 
 -- what its printer draws: the edges, each in its lane, the goroutines that have columns, whether others share the last one, the lanes that

@@ -1,6 +1,6 @@
 -- Small lists of edges, and what is drawn of them: src/examples.rt proves it.
 use Rattle.std.specs.{Prelude.{ℕ, true, List, [], ◌∷◌, map, Option}, List.range_with_len}
-use Rattle.race_edges.specs.declared.listing.Edge.{Edge}
+use Rattle.race_edges.specs.declared.edge_list.Edge.{Edge}
 use Rattle.race_draw.specs.{declared.{clean.Strand.Strand, fold.Spot.Spot}, Clean.strands}
 
 -- the edge from what this goroutine does in this event to what that one does in that event

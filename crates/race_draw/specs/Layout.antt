@@ -7,7 +7,7 @@ use Rattle.std.specs.{Prelude.{length, slice_get, unwrap_or, Option, Some, None}
 use Rattle.std.specs.{List.range_with_len, Option.option_to_list}
 use Rattle.race_records.specs.{declared.event.Event.Event, Events.TraceState}
 use Rattle.race_verdict.specs.{declared.races.Race.Race, Traces.capacities}
-use Rattle.race_edges.specs.declared.{fault.TheConstants.MAX_PLAIN_EVENTS, listing.Edge.Edge}
+use Rattle.race_edges.specs.declared.{fault.TheConstants.MAX_PLAIN_EVENTS, edge_list.Edge.Edge}
 use Rattle.race_edges.specs.Edges.{IsEdge, AreEdges}
 use Rattle.race_shards.specs.Seen.{who_at, IsLastSeen}
 use Rattle.race_draw.specs.declared.arrow.{Arrow.Arrow, Lane.Lane}

@@ -6,7 +6,7 @@ use Rattle.std.specs.List.{flat_map, list_any}
 use Rattle.race_records.specs.Events.{TraceState}
 use Rattle.race_text.specs.Text.{ended}
 use Rattle.race_verdict.specs.{Races.race_of, declared.races.Race.Race}
-use Rattle.race_edges.specs.declared.{fault.TheConstants.MAX_PLAIN_EVENTS, listing.Edge.Edge}
+use Rattle.race_edges.specs.declared.{fault.TheConstants.MAX_PLAIN_EVENTS, edge_list.Edge.Edge}
 use Rattle.race_report.specs.{Printable.IsOf, Report.{newline, access_word, race_line, races_line}}
 use Rattle.race_draw.specs.declared.{arrow.{Arrow.Arrow, Lane.Lane}, cells.{Column.Column, Line.Line}}
 use Rattle.race_draw.specs.{Layout.{LayoutState, missing}, Cells.{end_at, line_at, cell, lane_cell}}

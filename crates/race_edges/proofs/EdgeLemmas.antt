@@ -7,7 +7,7 @@ use Rattle.race_records.specs.declared.event.Event.{Event}
 use Rattle.race_model.specs.{Events.{At, partner}, Order.{SynchronizedInside, IsSource}, Synchronized.joins}
 use Rattle.race_model.proofs.Indexes.{at_same, slice_get-take, slice_get-push, push_at, append_at_old, take_within}
 use Rattle.race_model.proofs.{Indexes.take_at_old, Ranks.synchronized_up, SynchronizedTests.{joins_is, source_is}}
-use Rattle.race_edges.specs.{declared.listing.Edge.Edge, Synchronized.source_at, Edges.{IsEdge, ComesBefore, AreEdges}}
+use Rattle.race_edges.specs.{declared.edge_list.Edge.Edge, Synchronized.source_at, Edges.{IsEdge, ComesBefore, AreEdges}}
 use Rattle.race_edges.specs.EdgesSoFar.{AreEdgesWhere, LeadsBefore, AreEdgesBefore, edge_inside, with_edge}
 use Rattle.race_edges.proofs.SynchronizedLemmas.{source_at_is, inside_pair}
 

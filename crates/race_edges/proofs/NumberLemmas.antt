@@ -3,7 +3,7 @@ use Rattle.std.proofs.Common.{◌≡◌, ◌∙◌, ℕ, ◌+◌, ◌<◌, ◌==
 use Rattle.std.proofs.{Common.{IsTrue, sym, ap, arith, eqb-true}, lemmas.{Bool.Decides.nat_tests, List.take-take}}
 use Rattle.std.{proofs.lemmas.Option.slice_get_within, specs.List.slice_index_or}
 use Rattle.race_records.specs.declared.event.{Event.Event, Op.{Op, TheVariants.{Send, Recv, Unlock, RUnlock}}}
-use Rattle.race_records.specs.{declared.kind.Kind.Kind, Parts.op_is_in_range}
+use Rattle.race_records.specs.{declared.kind.Kind.Kind, Operands.op_is_in_range}
 use Rattle.race_model.specs.{Events.{At, sends, receives, locks, unlocks, runlocks, count}, Synchronized.is_source}
 use Rattle.race_edges.specs.{Numbers.{counts, AreNumbers}, Synchronized.{source_at, is_before_lock, is_last_unlock}}
 use Rattle.race_edges.proofs.SynchronizedLemmas.{source_at_is}

@@ -2,7 +2,7 @@
 use Rattle.std.specs.Prelude.{ℕ, ◌≡◌, ◌<◌, ◌⊎◌, List, Some, slice_get}
 use Rattle.race_records.specs.declared.event.Event.{Event}
 use Rattle.race_model.specs.Order.{Begin, End, SynchronizedBefore}
-use Rattle.race_edges.specs.declared.listing.Edge.{Edge}
+use Rattle.race_edges.specs.declared.edge_list.Edge.{Edge}
 
 -- the begin of from_who in event from is synchronized before the end of to_who in event to
 abbrev pub IsEdge : (ℕ → ℕ) → List Event → Edge → Type 0

@@ -1,7 +1,7 @@
 -- The edges that are listed so far.
 use Rattle.std.specs.Prelude.{ℕ, ◌≡◌, ◌<◌, ◌⊎◌, if◌then◌else◌, Bool, List, [], ◌∷◌, ◌++◌, Some, slice_get}
 use Rattle.race_records.specs.declared.event.Event.{Event}
-use Rattle.race_edges.specs.{declared.listing.Edge.Edge, Edges.{IsEdge, ComesBefore}}
+use Rattle.race_edges.specs.{declared.edge_list.Edge.Edge, Edges.{IsEdge, ComesBefore}}
 
 -- all edges of the events of which this holds, each once, in order
 pub record AreEdgesWhere (Holds : Edge → Type 0) (caps : ℕ → ℕ) (events : List Event) (edges : List Edge) : Type 0 where

@@ -3,7 +3,7 @@ use Rattle.std.proofs.Common.{◌≡◌, ◌||◌, ℕ, zero, suc, ◌<◌, ◌�
 use Rattle.std.proofs.Common.{cond, nat_lt, Some, ◌==◌, ◌+◌, refl, sym, ap, ◌∙◌, arith, true≢false}
 use Rattle.std.proofs.lemmas.{Bool.Decides.nat_tests, List.{take_all, Sums.{fails_before_first, passes_at_first}}}
 use Rattle.std.{proofs.lemmas.Option.slice_get-get_or, specs.List.{list_any, count_by, position_or_len}}
-use Rattle.race_hub.{specs.Submits.without_first, proofs.OnceLemmas.count_remove}
+use Rattle.race_hub.{specs.Submits.without_first, proofs.{OnceLemmas.count_remove, TableLemmas.same_number}}
 
 either_false : (a b : Bool) → (a || b) ≡ false → (a ≡ false) × (b ≡ false)
 either_false true b is = absurd cc
@@ -34,9 +34,6 @@ any_within p xs is = by (nat_lt (position_or_len p xs) (length xs)) refl
     by false test =
         let le : length xs ≤ position_or_len p xs = grind (arith, nat_tests) in
         absurd (true≢false (sym is ∙ none_any p xs 0 (λ k less. fails_before_first p xs k 0 (omega (arith, less, le)))))
-
-same_number : (m n : ℕ) → (m == n) ≡ true → m ≡ n
-same_number m n is = grind (arith, nat_tests)
 
 -- without the first that is g there is one g fewer
 pub first_gone : (xs : List ℕ) (g k : ℕ) → list_any (λ o. o == g) xs ≡ true

@@ -5,8 +5,8 @@ use Rattle.std.proofs.lemmas.Option.{none-some, slice_get_within}
 use Rattle.race_records.specs.declared.event.{Event.Event, Op.{Op, TheVariants.{Send, Recv, Meet}}}
 use Rattle.race_model.{specs.Legal.{broken, rules}, proofs.ChannelOrder.rules_kept}
 use Rattle.race_requests.specs.declared.{choice.Choice.Choice, request.{Ask.Ask, Waiter.Waiter}}
-use Rattle.race_requests.specs.{Table.{offers_of, done_by}, Choices.{op_of, lone_event, meet_event, event_of, ways}}
-use Rattle.race_requests.{specs.Choices.ways_at, proofs.ChoiceLemmas.{some_is, HasAnswer, sender_has, receiver_has}}
+use Rattle.race_requests.specs.{Table.{offers_of, done_by}, Choices.{op_of, lone_event, meet_event, event_of, branches}}
+use Rattle.race_requests.{specs.Choices.branches_at, proofs.ChoiceLemmas.{some_is, HasAnswer, sender_has, receiver_has}}
 use Rattle.race_requests.proofs.ChoiceLemmas.{lone_told, meets_by, IsMeet, is_meet}
 use Rattle.race_hub.specs.{Fires.IsPartnerRow, Firing.HasSomeRows}
 
@@ -39,7 +39,7 @@ apart_by caps past e r c v legal is =
     (ap (λ op. broken caps past (record { who = e.who; op = op; place = e.place; place2 = e.place2 })) (sym is) ∙ legal) refl
 
 module _ (caps : ℕ → ℕ) (past : List Event) (ws : List Waiter) (t : Choice) (e : Event) (legal : broken caps past e ≡ None) where
-  with_rows : (w : Waiter) (r : Option Waiter) (alone : Bool) → t.offer < ways w.asked.ask
+  with_rows : (w : Waiter) (r : Option Waiter) (alone : Bool) → t.offer < branches w.asked.ask
       → slice_get ws t.place ≡ Some w → slice_get ws (t.partner - 1) ≡ r → (t.partner == 0) ≡ alone
       → cond alone (lone_event past w t.offer) (elim r [ None ↦ None | Some r ↦ meet_event w t.offer r (t.partner_offer - 1) ]) ≡ Some e
       → HasSomeRows ws t e
@@ -98,7 +98,7 @@ module _ (caps : ℕ → ℕ) (past : List Event) (ws : List Waiter) (t : Choice
           let is : (r.who == w.who) ≡ true = eq-eqb r.who w.who (ap (λ (v : Waiter). v.who) same) in
           true≢false (sym is ∙ unlike)
 
-  by_place : (w : Option Waiter) → slice_get ws t.place ≡ w → t.offer < elim w [ Some w ↦ ways w.asked.ask | None ↦ 0 ]
+  by_place : (w : Option Waiter) → slice_get ws t.place ≡ w → t.offer < elim w [ Some w ↦ branches w.asked.ask | None ↦ 0 ]
       → elim w [
         | None ↦ None
         | Some w ↦ cond (t.partner == 0) (lone_event past w t.offer) (elim (slice_get ws (t.partner - 1)) [
@@ -110,5 +110,5 @@ module _ (caps : ℕ → ℕ) (past : List Event) (ws : List Waiter) (t : Choice
   by_place (Some w) at less made = with_rows w (slice_get ws (t.partner - 1)) (t.partner == 0) less at refl refl made
 
   -- who takes part in a legal event that a choice makes has its row
-  pub rows_of : t.offer < ways_at ws t.place → event_of past ws t ≡ Some e → HasSomeRows ws t e
+  pub rows_of : t.offer < branches_at ws t.place → event_of past ws t ≡ Some e → HasSomeRows ws t e
   rows_of less made = by_place (slice_get ws t.place) refl less made

@@ -1,7 +1,7 @@
 -- When the hub has ended.
 use Rattle.std.proofs.Common.{◌≡◌, ◌==◌, ◌&&◌, ℕ, ◌%◌, Bool, true, false, if◌then◌else◌, List, [], ◌∷◌, length, Option}
 use Rattle.std.proofs.{Common.{Some, None, refl, ap, slice_get, arith}, lemmas.Bool.Decides.nat_tests}
-use Rattle.std.{proofs.lemmas.Option.slice_get_within, specs.List.list_any}
+use Rattle.std.{proofs.lemmas.Option.slice_get_within, specs.{List.list_any, Prelude.is_some}}
 use Rattle.race_requests.specs.{declared.choice.Choice.Choice, Search.picked}
 use Rattle.race_hub.specs.{declared.ending.End.End, Hub.{HubState, stop_of, end_of, is_deadlock, choices_of}}
 
@@ -43,3 +43,8 @@ module _ {R : Type 0} where
 
   pub end_while_ready : (h : HubState R) → (length h.ready == 0) ≡ false → end_of h ≡ stop_of h
   end_while_ready h is = by_dead (stop_of h) (is_deadlock h) (ap (λ b. b && ((length h.out == 0) && (length (choices_of h) == 0))) is)
+
+-- what isn't there is nothing
+pub none_of : {X : Type 0} (o : Option X) → is_some o ≡ false → o ≡ None
+none_of None is = refl
+none_of (Some x) is = absurd cc

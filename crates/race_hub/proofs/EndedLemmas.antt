@@ -8,7 +8,7 @@ use Rattle.race_model.{specs.Events.{is_exit, is_fault, has_exited}, proofs.Coun
 use Rattle.race_requests.specs.declared.request.{Ask.Ask, Waiter.Waiter}
 use Rattle.race_requests.specs.Sound.{asks_to_start, is_sound, is_out_of_turn, is_bad_among}
 use Rattle.race_hub.specs.{Hub.HubState, Kept.{is_active, has_failed, has_left, StandOnce, HavePlaces}}
-use Rattle.race_hub.{specs.Recording.{others_of, HasBadRequest}, proofs.OnceLemmas.{count_cons, has_failed_push}}
+use Rattle.race_hub.{specs.Recording.{others_of, HasBadRequest}, proofs.OnceLemmas.{at_most_one, count_cons, has_failed_push}}
 
 pub not_not : (b : Bool) → not (not b) ≡ b
 not_not true = refl
@@ -143,12 +143,8 @@ few_by (suc n) ws once below =
 pub few_wait : {R : Type 0} (h : HubState R) → StandOnce h → HavePlaces h → length h.waiting ≤ length h.routines
 few_wait h once places =
     few_by (length h.routines) h.waiting
-    (λ g. let all = once g in let one = at_most (is_active g h.events) in omega (arith, all, one))
+    (λ g. let all = once g in let one = at_most_one (is_active g h.events) in omega (arith, all, one))
     (λ g some. places g (omega (arith, some)))
-  where
-    at_most : (b : Bool) → cond b 1 0 ≤ 1
-    at_most true = omega arith
-    at_most false = omega arith
 
 or_stays : (a b c d : Bool) → c ≡ (b || d) → (a || b) ≡ true → (a || c) ≡ true
 or_stays true b c d more is = refl
@@ -164,21 +160,7 @@ turn_stays past ws vs g (Ask.Go h) is =
     in_or : (a : Bool) {b c : Bool} → (b ≡ true → c ≡ true) → (a || b) ≡ true → (a || c) ≡ true
     in_or true f is = refl
     in_or false f is = f is
-turn_stays past ws vs g Ask.Exit is = is
-turn_stays past ws vs g (Ask.Read x) is = is
-turn_stays past ws vs g (Ask.Write x v) is = is
-turn_stays past ws vs g (Ask.Send c v) is = is
-turn_stays past ws vs g (Ask.Recv c) is = is
-turn_stays past ws vs g (Ask.Close c) is = is
-turn_stays past ws vs g (Ask.Select offers has_default) is = is
-turn_stays past ws vs g (Ask.Lock l) is = is
-turn_stays past ws vs g (Ask.Unlock l) is = is
-turn_stays past ws vs g (Ask.RLock l) is = is
-turn_stays past ws vs g (Ask.RUnlock l) is = is
-turn_stays past ws vs g (Ask.TryLock l) is = is
-turn_stays past ws vs g (Ask.TryRLock l) is = is
-turn_stays past ws vs g (Ask.Do o) is = is
-turn_stays past ws vs g (Ask.EndDo o) is = is
+turn_stays past ws vs g _ is = is
 
 bad_beside : (decls : DeclsState) (past : List Event) (ws vs : List Waiter) (w : Waiter) → is_bad_among decls past ws w ≡ true
     → is_bad_among decls past (ws ++ vs) w ≡ true
@@ -216,9 +198,5 @@ pub out_waits_not : {R : Type 0} (h : HubState R) (g more : ℕ) → StandOnce h
     → count_by (λ (w : Waiter). w.who == g) h.waiting ≡ 0
 out_waits_not h g more once out =
     let sum = once g in
-    let one = at_most (is_active g h.events) in
+    let one = at_most_one (is_active g h.events) in
     omega (arith, sum, out, one)
-  where
-    at_most : (b : Bool) → cond b 1 0 ≤ 1
-    at_most true = omega arith
-    at_most false = omega arith

@@ -2,10 +2,7 @@
 use Rattle.std.proofs.Common.{◌≡◌, ◌&&◌, ℕ, ◌<◌, ◌%◌, nat_lt, Bool, true, false, List, [], length, All}
 use Rattle.std.proofs.Common.{IsTrue, Option, Some, None, IsNone, refl, sym, ap, ◌∙◌, subst, arith, slice_get, eq-eqb}
 use Rattle.std.proofs.lemmas.Bool.Decides.{nat_tests}
-use Rattle.race_records.specs.declared.event.{Event.Event, Op.{Op, TheVariants.{Go, Exit, Read, Write, Send, Recv}}}
-use Rattle.race_records.specs.declared.event.Op.TheVariants.{Meet, RecvClosed, Close, Lock, Unlock, RLock, RUnlock}
-use Rattle.race_records.specs.declared.event.Op.TheVariants.{TryLock, TryRLock, TryFail, OnceBegin, OnceEnd, OnceDone}
-use Rattle.race_records.specs.declared.{event.Op.TheVariants.{Fault, Default}, kind.Kind.Kind}
+use Rattle.race_records.specs.declared.{event.{Event.Event, Op.{Op, TheVariants.Go}}, kind.Kind.Kind}
 use Rattle.race_records.specs.{Declarations.{DeclsState, capacity_of, count_of}, Events.{fits, is_in_range}}
 use Rattle.race_records.specs.Events.{is_right_kind, op_fits}
 use Rattle.race_model.specs.{Events.starts, Legal.broken}
@@ -16,7 +13,7 @@ use Rattle.race_hub.specs.{Fires.{started_by, HasRoutine}, Firing.{HasRows, HasS
 use Rattle.race_hub.proofs.{ChoiceRows.rows_of, FitLemmas.choice_fits, OnceLemmas.started_fresh, KeptLemmas.fresh_routine}
 use Rattle.race_hub.proofs.TableLemmas.{both_true}
 
-second : (a b c d : Bool) → (a && b && c && d) ≡ true → b ≡ true
+pub second : (a b c d : Bool) → (a && b && c && d) ≡ true → b ≡ true
 second true true c d is = refl
 second true false c d is = absurd cc
 second false b c d is = absurd cc
@@ -43,26 +40,7 @@ module _ {R : Type 0} (h : HubState R) where
       let fresh = started_fresh (capacity_of h.decls.declarations) h.events e g kept.legal legal starts in
       let less = go_in_range h.decls e g fit is in
       fresh_routine h g kept (subst (λ n. g < n) (sym count) less) fresh.main fresh.exited fresh.failed
-  routine_of e Exit is kept count fit legal = tt
-  routine_of e (Read x v) is kept count fit legal = tt
-  routine_of e (Write x v) is kept count fit legal = tt
-  routine_of e (Send c v) is kept count fit legal = tt
-  routine_of e (Recv c v) is kept count fit legal = tt
-  routine_of e (Meet r c v) is kept count fit legal = tt
-  routine_of e (RecvClosed c) is kept count fit legal = tt
-  routine_of e (Close c) is kept count fit legal = tt
-  routine_of e (Default cases) is kept count fit legal = tt
-  routine_of e (Lock l) is kept count fit legal = tt
-  routine_of e (Unlock l) is kept count fit legal = tt
-  routine_of e (RLock l) is kept count fit legal = tt
-  routine_of e (RUnlock l) is kept count fit legal = tt
-  routine_of e (TryLock l) is kept count fit legal = tt
-  routine_of e (TryRLock l) is kept count fit legal = tt
-  routine_of e (TryFail l) is kept count fit legal = tt
-  routine_of e (OnceBegin o) is kept count fit legal = tt
-  routine_of e (OnceEnd o) is kept count fit legal = tt
-  routine_of e (OnceDone o) is kept count fit legal = tt
-  routine_of e (Fault cause) is kept count fit legal = tt
+  routine_of e _ is kept count fit legal = tt
 
   -- the picked choice is possible
   pub picked_is_possible : (pick : ℕ) (t : Choice) → picked pick (choices_of h) ≡ Some t → IsPossible (capacity_of h.decls.declarations) h.events h.waiting t
@@ -80,7 +58,7 @@ module _ {R : Type 0} (h : HubState R) where
       let p = picked_is_possible pick t is in
       let same = made_event t e p makes in
       rows_of (capacity_of h.decls.declarations) h.events h.waiting t e
-      (subst (λ e. broken (capacity_of h.decls.declarations) h.events e ≡ None) same p.legal) p.way makes
+      (subst (λ e. broken (capacity_of h.decls.declarations) h.events e ≡ None) same p.legal) p.branch makes
 
   pub picked_firing : (pick : ℕ) (f : Firing) → picked pick (choices_of h) ≡ Some f.choice → event_of h.events h.waiting f.choice ≡ Some f.event
       → HasRows h.waiting f.choice f.event f.told f.partner

@@ -6,8 +6,8 @@ use Rattle.race_records.specs.declared.event.{Event.Event, Op.{Op, TheVariants.{
 use Rattle.race_records.specs.declared.event.Op.TheVariants.{Default, Unlock, RUnlock, TryLock, TryRLock, TryFail}
 use Rattle.race_records.specs.declared.event.{Op.TheVariants.{OnceBegin, OnceDone, Fault}, Cause.TheVariants.SendClosed}
 use Rattle.race_records.specs.declared.{event.Cause.TheVariants.{CloseClosed, UnlockFree, RUnlockFree}, kind.Kind.Kind}
-use Rattle.race_records.specs.{declared.version.Version.Version, Declarations.{DeclsState, counts_of}, Parts.says}
-use Rattle.race_records.specs.{Parts.{is_in, has_two_places, op_is_in_range}, Events.{has_op, lock_fits}}
+use Rattle.race_records.specs.{declared.version.Version.Version, Declarations.{DeclsState, counts_of}, Operands.says}
+use Rattle.race_records.specs.{Operands.{is_in, has_two_places, op_is_in_range}, Events.{has_op, lock_fits}}
 use Rattle.race_records.specs.Events.{second_place_fits, fits}
 use Rattle.race_model.specs.State.{is_closed, front, is_held, is_read_held, is_begun}
 use Rattle.race_requests.specs.declared.{choice.Choice.Choice, request.{Ask.Ask, Offer.Offer, Waiter.Waiter}}
@@ -16,6 +16,7 @@ use Rattle.race_requests.specs.{Table.offers_of, Choices.{lone_op, offer_at, op_
 use Rattle.race_requests.{specs.Sound.{is_sound, has_ask, lock_suits}, proofs.ChoiceLemmas.{some_is, all_at, meets_by}}
 use Rattle.race_requests.proofs.{ChoiceLemmas.is_meet, OfferLemmas.{offers_in_range, offer_in_range, cases_in_range}}
 use Rattle.race_requests.proofs.OfferLemmas.{sent_in_range}
+use Rattle.race_hub.proofs.TableLemmas.{both_true}
 
 -- what a sound request says
 pub record IsSound (decls : DeclsState) (w : Waiter) : Type 0 where
@@ -25,18 +26,14 @@ pub record IsSound (decls : DeclsState) (w : Waiter) : Type 0 where
   pub suits : lock_suits decls w.asked.ask ≡ true
   pub place : nat_lt w.asked.place (length decls.places) ≡ true
 
-both : (a b : Bool) → (a && b) ≡ true → (a ≡ true) × (b ≡ true)
-both true b is = (refl, is)
-both false b is = absurd cc
-
 pub sound_is : (decls : DeclsState) (w : Waiter) → IsTrue (is_sound decls w) → IsSound decls w
 sound_is decls w is =
     let all =
-    both (is_declared decls.declarations w)
+    both_true (is_declared decls.declarations w)
     (has_ask decls.version w.asked.ask && (lock_suits decls w.asked.ask && nat_lt w.asked.place (length decls.places))) is in
-    let declared = both (nat_lt w.who (counts_of decls.declarations Kind.Goroutine)) (ask_is_in_range (counts_of decls.declarations) w.asked.ask) all.0 in
-    let known = both (has_ask decls.version w.asked.ask) (lock_suits decls w.asked.ask && nat_lt w.asked.place (length decls.places)) all.1 in
-    let rest = both (lock_suits decls w.asked.ask) (nat_lt w.asked.place (length decls.places)) known.1 in
+    let declared = both_true (nat_lt w.who (counts_of decls.declarations Kind.Goroutine)) (ask_is_in_range (counts_of decls.declarations) w.asked.ask) all.0 in
+    let known = both_true (has_ask decls.version w.asked.ask) (lock_suits decls w.asked.ask && nat_lt w.asked.place (length decls.places)) all.1 in
+    let rest = both_true (lock_suits decls w.asked.ask) (nat_lt w.asked.place (length decls.places)) known.1 in
     record { who = declared.0; range = declared.1; known = known.0; suits = rest.0; place = rest.1 }
 
 -- the operation fits, and has one place
@@ -87,18 +84,9 @@ module _ (decls : DeclsState) where
   -- what a request in range does alone fits
   lone_fits : (past : List Event) (ask : Ask) (k : ℕ) (op : Op) → ask_is_in_range (counts_of decls.declarations) ask ≡ true
       → has_ask decls.version ask ≡ true → lock_suits decls ask ≡ true → op_of past ask k ≡ Some op → OpFits decls op
-  lone_fits past (Ask.Go h) k op is known suits made =
-      subst (OpFits decls) (some_is made)
-      (record { range = and_true _ is; known = in_first decls.version; lock = refl; one_place = refl })
   lone_fits past Ask.Exit k op is known suits made =
       subst (OpFits decls) (some_is made)
       (record { range = refl; known = in_first decls.version; lock = refl; one_place = refl })
-  lone_fits past (Ask.Read x) k op is known suits made =
-      subst (OpFits decls) (some_is made)
-      (record { range = and_true _ is; known = in_first decls.version; lock = refl; one_place = refl })
-  lone_fits past (Ask.Write x v) k op is known suits made =
-      subst (OpFits decls) (some_is made)
-      (record { range = and_true _ is; known = in_first decls.version; lock = refl; one_place = refl })
   lone_fits past (Ask.Send None v) k op is known suits made = absurd (none-some op made)
   lone_fits past (Ask.Send (Some c) v) k op is known suits made =
       subst (OpFits decls) (some_is made) (by_test (is_closed c past) (Fault (SendClosed c)) (Send c v)
@@ -115,9 +103,6 @@ module _ (decls : DeclsState) where
       (record { range = and_true _ is; known = in_first decls.version; lock = refl; one_place = refl }))
   lone_fits past (Ask.Select offers has_default) k op is known suits made =
       by_select past offers k (has_default && (k == length offers)) op (offers_in_range (counts_of decls.declarations) offers has_default is) made
-  lone_fits past (Ask.Lock l) k op is known suits made =
-      subst (OpFits decls) (some_is made)
-      (record { range = and_true _ is; known = in_first decls.version; lock = refl; one_place = refl })
   lone_fits past (Ask.Unlock l) k op is known suits made =
       subst (OpFits decls) (some_is made) (by_test (is_held l past) (Unlock l) (Fault (UnlockFree l))
       (record { range = and_true _ is; known = in_first decls.version; lock = refl; one_place = refl })
@@ -141,7 +126,7 @@ module _ (decls : DeclsState) where
       subst (OpFits decls) (some_is made) (by_test (is_begun o past) (OnceDone o) (OnceBegin o)
       (record { range = and_true _ is; known = in_first decls.version; lock = refl; one_place = refl })
       (record { range = and_true _ is; known = in_first decls.version; lock = refl; one_place = refl }))
-  lone_fits past (Ask.EndDo o) k op is known suits made =
+  lone_fits past _ k op is known suits made =
       subst (OpFits decls) (some_is made)
       (record { range = and_true _ is; known = in_first decls.version; lock = refl; one_place = refl })
 

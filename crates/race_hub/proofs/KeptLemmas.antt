@@ -14,7 +14,7 @@ use Rattle.race_hub.specs.Kept.{standing, has_failed, has_left, is_active, has_r
 use Rattle.race_hub.proofs.TableLemmas.{both_true, same_number, has_set, leaver_len, leaver_count, step_len}
 use Rattle.race_hub.proofs.OnceLemmas.{leaves, told_leaves, event_who, count_without, goes_count, partner_count}
 use Rattle.race_hub.proofs.OnceLemmas.{begun_count, four_counts, asker_balance, one_step, started_fresh, active_push}
-use Rattle.race_hub.proofs.OnceLemmas.{count_append, count_one, count_cons, passes, starts_go, is_waiter, ready_of}
+use Rattle.race_hub.proofs.OnceLemmas.{at_most_one, count_append, count_one, count_cons, passes, starts_go, is_waiter, ready_of}
 use Rattle.race_hub.proofs.{EndedLemmas.{standing_stays, left_push, not_not}, AmongLemmas.first_gone}
 
 not_false : (b : Bool) → not b ≡ false → b ≡ true
@@ -39,10 +39,6 @@ gone : (b here after : Bool) (out more left : ℕ) → cond here 1 0 + out + lef
 gone true here after out more left sum longer there set =
     let one = ap as_number (there refl) in let none = ap as_number set in omega (arith, sum, longer, one, none)
 gone false here after out more left sum longer there set = let one = ap as_number set in omega (arith, sum, longer, one)
-
-pub at_most_one : (b : Bool) → cond b 1 0 ≤ 1
-at_most_one true = omega arith
-at_most_one false = omega arith
 
 pub is_one : (b : Bool) → as_number b ≡ 1 → b ≡ true
 is_one true is = refl

@@ -110,8 +110,8 @@ all_tracked events old new fresh passed g t at =
     first : (s : TrackState) → s.passed ≡ Some 0 → IsTracked g [] s
     first s is = rw is (refl, record { enough = omega arith; each = λ k s e step at. absurd (none-some e at) })
 
-pub parts_are : (events : List Event) (tracks : List TrackState) → IsFirstOther tracks events None → AreParts (logs_in tracks) events
-parts_are events tracks all g log at = by (slice_get tracks g) refl (sym (slice_get-map (λ (t : TrackState). t.log) tracks g) ∙ at)
+pub operands_are : (events : List Event) (tracks : List TrackState) → IsFirstOther tracks events None → AreParts (logs_in tracks) events
+operands_are events tracks all g log at = by (slice_get tracks g) refl (sym (slice_get-map (λ (t : TrackState). t.log) tracks g) ∙ at)
   where
     by : (o : Option TrackState) → slice_get tracks g ≡ o → option_map (λ (t : TrackState). t.log) o ≡ Some log → IsPart g log events
     by None there is = absurd (none-some log is)

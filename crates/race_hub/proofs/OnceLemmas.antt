@@ -83,6 +83,10 @@ module _ {X : Type 0} (p : X → Bool) where
           let same : passes (slice_get xs (t.partner - 1)) ≡ as_number (p other.0) = ap passes other.1 in
           omega (arith, two, same)
 
+pub at_most_one : (b : Bool) → as_number b ≤ 1
+at_most_one true = omega arith
+at_most_one false = omega arith
+
 -- Who is told nothing.
 
 -- who does it goes on no more
@@ -166,26 +170,7 @@ done_leaves g (Meet r c v) = by (r == g)
     by : (b : Bool) → leaves (cond b (Recv c v) (Send c v)) ≡ false
     by true = refl
     by false = refl
-done_leaves g (Go k) = refl
-done_leaves g Exit = refl
-done_leaves g (Read x v) = refl
-done_leaves g (Write x v) = refl
-done_leaves g (Send c v) = refl
-done_leaves g (Recv c v) = refl
-done_leaves g (RecvClosed c) = refl
-done_leaves g (Close c) = refl
-done_leaves g (Default cases) = refl
-done_leaves g (Lock l) = refl
-done_leaves g (Unlock l) = refl
-done_leaves g (RLock l) = refl
-done_leaves g (RUnlock l) = refl
-done_leaves g (TryLock l) = refl
-done_leaves g (TryRLock l) = refl
-done_leaves g (TryFail l) = refl
-done_leaves g (OnceBegin o) = refl
-done_leaves g (OnceEnd o) = refl
-done_leaves g (OnceDone o) = refl
-done_leaves g (Fault cause) = refl
+done_leaves g _ = refl
 
 -- who asked is told nothing just where it leaves
 pub told_leaves : (ask : Ask) (k g : ℕ) (op : Op) (told : Option Answer) → IsRow ask k (done_by g op) told → is_some told ≡ not (leaves op)
@@ -331,49 +316,11 @@ one_step z s x f false false lx lf m n old sums stands fresh =
 
 starts_is : (g : ℕ) (op : Op) → as_number (starts g op) ≡ as_number (elim (started_by op) [ None ↦ false | Some h ↦ h == g ])
 starts_is g (Go k) = refl
-starts_is g Exit = refl
-starts_is g (Read x v) = refl
-starts_is g (Write x v) = refl
-starts_is g (Send c v) = refl
-starts_is g (Recv c v) = refl
-starts_is g (Meet r c v) = refl
-starts_is g (RecvClosed c) = refl
-starts_is g (Close c) = refl
-starts_is g (Default cases) = refl
-starts_is g (Lock l) = refl
-starts_is g (Unlock l) = refl
-starts_is g (RLock l) = refl
-starts_is g (RUnlock l) = refl
-starts_is g (TryLock l) = refl
-starts_is g (TryRLock l) = refl
-starts_is g (TryFail l) = refl
-starts_is g (OnceBegin o) = refl
-starts_is g (OnceEnd o) = refl
-starts_is g (OnceDone o) = refl
-starts_is g (Fault cause) = refl
+starts_is g _ = refl
 
 pub starts_go : (g : ℕ) (op : Op) → starts g op ≡ true → op ≡ Go g
 starts_go g (Go k) is = ap Go (same_number k g is)
-starts_go g Exit is = absurd cc
-starts_go g (Read x v) is = absurd cc
-starts_go g (Write x v) is = absurd cc
-starts_go g (Send c v) is = absurd cc
-starts_go g (Recv c v) is = absurd cc
-starts_go g (Meet r c v) is = absurd cc
-starts_go g (RecvClosed c) is = absurd cc
-starts_go g (Close c) is = absurd cc
-starts_go g (Default cases) is = absurd cc
-starts_go g (Lock l) is = absurd cc
-starts_go g (Unlock l) is = absurd cc
-starts_go g (RLock l) is = absurd cc
-starts_go g (RUnlock l) is = absurd cc
-starts_go g (TryLock l) is = absurd cc
-starts_go g (TryRLock l) is = absurd cc
-starts_go g (TryFail l) is = absurd cc
-starts_go g (OnceBegin o) is = absurd cc
-starts_go g (OnceEnd o) is = absurd cc
-starts_go g (OnceDone o) is = absurd cc
-starts_go g (Fault cause) is = absurd cc
+starts_go g _ is = absurd cc
 
 -- whom a legal event starts was nothing before
 pub started_fresh : (caps : ℕ → ℕ) (past : List Event) (e : Event) (g : ℕ) → IsLegal caps past → broken caps past e ≡ None → starts g e.op ≡ true
@@ -409,10 +356,10 @@ module _ (g : ℕ) where
   goes_count w None = refl
   goes_count w (Some answer) = count_one (λ (r : ℕ × Answer). r.0 == g) (w.who, answer)
 
-  pub partner_count : (w : Option Waiter) (way : ℕ) (op : Op) (told : Option Answer) → IsPartnerRow w way op told
+  pub partner_count : (w : Option Waiter) (branch : ℕ) (op : Op) (told : Option Answer) → IsPartnerRow w branch op told
       → ready_of (goes_on w told) ≡ passes (is_waiter g) w
-  partner_count None way op told row = refl
-  partner_count (Some w) way op told row = goes_count w told ∙ ap (λ (o : Option Answer). as_number (is_some o && (w.who == g))) row.0.1
+  partner_count None branch op told row = refl
+  partner_count (Some w) branch op told row = goes_count w told ∙ ap (λ (o : Option Answer). as_number (is_some o && (w.who == g))) row.0.1
 
   begun_by : (started : Option ℕ) → ready_of (begins started) ≡ as_number (elim started [ None ↦ false | Some h ↦ h == g ])
   begun_by None = refl

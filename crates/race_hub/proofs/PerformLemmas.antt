@@ -14,36 +14,28 @@ use Rattle.race_legal.specs.{ReplayState.{ReplayState, counts_in, IsInRange}, St
 use Rattle.race_requests.specs.declared.{choice.Choice.Choice, request.{Waiter.Waiter, Answer.Answer}}
 use Rattle.race_requests.{specs.Sound.is_sound, proofs.ChoiceLemmas.all_at}
 use Rattle.race_hub.specs.{declared.ending.End.End, Hub.{HubState, stop_by, stop_of, is_last, is_main_exit}}
-use Rattle.race_hub.specs.{HubHolds.HaveRoom, Holds.Holds, Kept.{is_active, IsKept}}
+use Rattle.race_hub.specs.{Firing.{CanAppend, HasPlace}, HubHolds.HaveRoom, Holds.Holds, Kept.{is_active, IsKept}}
 use Rattle.race_hub.specs.Fires.{Fires, without, partner_of, is_asker, without_leaver, IsPartnerRow}
-use Rattle.race_hub.proofs.{OnceLemmas.{count_without, passes, is_waiter}, EndedLemmas.kept_by}
-use Rattle.race_hub.proofs.{KeptLemmas.{fired_kept, at_most_one}, SubmitLemmas.bad_stops}
-use Rattle.race_hub.proofs.{TableLemmas.{both_true, leaver_len}, FiringLemmas.below}
+use Rattle.race_hub.proofs.{OnceLemmas.{at_most_one, count_without, passes, is_waiter}, EndedLemmas.kept_by}
+use Rattle.race_hub.proofs.{KeptLemmas.fired_kept, SubmitLemmas.bad_stops}
+use Rattle.race_hub.proofs.{TableLemmas.{both_true, leaver_len}, FiringLemmas.{below, second}}
 
 -- what is right isn't wrong
 pub not_both : {X E : Type 0} (r : Result X E) (e : E) → IsOk r → r ≡ Err e → ⊥
 not_both r e ok is = true≢false (sym (subst IsOk is ok))
 
 -- an event that fits is in the range of the replay's tables
-pub fit_is_in_range : (decls : DeclsState) (k : ReplayState) (past : List Event) (e : Event) → StandsFor decls.declarations k past → IsTrue (fits decls e)
+fit_is_in_range : (decls : DeclsState) (k : ReplayState) (past : List Event) (e : Event) → StandsFor decls.declarations k past → IsTrue (fits decls e)
     → IsInRange (counts_in k) e
 unfolding fits
 fit_is_in_range decls k past e stands is =
     let range = (both_true (is_in_range decls e) (is_right_kind decls e.op) is).0 in
-    subst (λ counts. IsInRange counts e) (sym stands.counts) (
-      below e.who (counts_of decls.declarations Kind.Goroutine)
-          (first _ _ _ _ range),
-      middle _ _ _ _ range,
-    )
+    subst (λ counts. IsInRange counts e) (sym stands.counts)
+    (below e.who (counts_of decls.declarations Kind.Goroutine) (first _ _ _ _ range), second _ _ _ _ range)
   where
     first : (a b c d : Bool) → (a && b && c && d) ≡ true → a ≡ true
     first true b c d is = refl
     first false b c d is = absurd cc
-
-    middle : (a b c d : Bool) → (a && b && c && d) ≡ true → b ≡ true
-    middle true true c d is = refl
-    middle true false c d is = absurd cc
-    middle false b c d is = absurd cc
 
 -- such an event is taken while the trace isn't full
 pub fit_is_taken : (trace : TraceState) (e : Event) → IsTrue (fits trace.decls e) → length trace.events < MAX_EVENTS → push_fault trace e ≡ None
@@ -65,16 +57,26 @@ module _ {R : Type 0} where
       by (is_last is_main_exit h.events) (is_last (λ e. is_fault e.op) h.events) h.bad (length h.events == h.limit) refl on
     where
       by : (a b : Bool) (bad : Option ℕ) (full : Bool) → (length h.events == h.limit) ≡ full
-          → (if a then Some End.Main else (if b then Some End.Fault
-          else elim bad [ Some g ↦ Some (End.Bad g) | None ↦ if full then Some End.Limit else None ])) ≡ None
+          → ◌≡◌ {A = Option End} (if a then Some End.Main else (if b then Some End.Fault
+          else elim bad [ Some g ↦ Some (End.Bad g) | None ↦ if full then Some End.Limit else None ])) None
           → length h.events < h.limit
-      by true b bad full is on = absurd (none-some _ (sym on))
-      by false true bad full is on = absurd (none-some _ (sym on))
-      by false false (Some g) full is on = absurd (none-some _ (sym on))
-      by false false None true is on = absurd (none-some _ (sym on))
       by false false None false is on =
           let unlike : length h.events ≡ h.limit → ⊥ = λ same. true≢false (sym (eq-eqb _ _ same) ∙ is) in
           omega (arith, le, unlike)
+      by _ _ _ _ is on = absurd cc
+
+  pub can_append : {k : ReplayState} {h : HubState R} {e : Event} → Holds k h → stop_of h ≡ None → IsTrue (fits h.decls e)
+      → CanAppend k h.decls h.events e
+  can_append {k} {h} {e} holds on is =
+      let less = below_limit h on holds.kept.limited in
+      let few = holds.few in
+      let len = holds.stands.len in
+      record {
+        range = fit_is_in_range h.decls k h.events e holds.stands is;
+        room = omega (arith, less, few, len);
+        fits = is;
+        few = omega (arith, less, few);
+      }
 
 -- what stands in a part of a list stands in the list
 abbrev pub IsIn : {X : Type 0} → X → List X → Type 0
@@ -114,92 +116,87 @@ all_without P t xs all k d less =
     let old = without_old t xs (get_or (without t xs) k d) (k, slice_get-get_or (without t xs) k d less) in
     all_at P xs old.0 (get_or (without t xs) k d) all old.1
 
--- Those that take part.
+-- who is taken out of those that wait, by a choice of a kept hub
+pub record AreTaken {R : Type 0} (h : HubState R) (t : Choice) (w : Waiter) (o : Option Waiter) : Type 0 where
+  pub asks : slice_get h.waiting t.place ≡ Some w
+  pub second : partner_of t h.waiting ≡ o
+  pub partner : t.partner ≤ length h.waiting
+  pub apart : t.partner ≢ t.place + 1
+  pub kept : IsKept h
 
-module _ {R : Type 0} (h : HubState R) (t : Choice) (w : Waiter) (o : Option Waiter) (asks : slice_get h.waiting t.place ≡ Some w)
-    (second : partner_of t h.waiting ≡ o) (partner : t.partner ≤ length h.waiting) (apart : t.partner ≢ t.place + 1) (kept : IsKept h) where
+module _ {R : Type 0} {h : HubState R} {t : Choice} {w : Waiter} {o : Option Waiter} (taken : AreTaken h t w o) where
   -- all of those of this number that wait, of whom there is one at most
   waits : (g : ℕ) → count_by (is_waiter g) (without t h.waiting) + as_number (w.who == g) + passes (is_waiter g) o ≡ count_by (is_waiter g) h.waiting
   waits g =
-      ap (λ o. count_by (is_waiter g) (without t h.waiting) + as_number (w.who == g) + passes (is_waiter g) o) (sym second)
-      ∙ count_without (is_waiter g) t h.waiting w asks partner apart
+      ap (λ o. count_by (is_waiter g) (without t h.waiting) + as_number (w.who == g) + passes (is_waiter g) o) (sym taken.second)
+      ∙ count_without (is_waiter g) t h.waiting w taken.asks taken.partner taken.apart
 
   one_waits : (g : ℕ) → count_by (is_waiter g) h.waiting ≤ 1
   one_waits g =
-      let once = kept.once g in
+      let once = taken.kept.once g in
       let most = at_most_one (is_active g h.events) in
       omega (arith, once, most)
 
   own : (g : ℕ) → as_number (g == g) ≡ 1
   own g = ap as_number (eq-eqb g g refl)
 
-  asker_waits : 0 < count_by (is_waiter w.who) h.waiting
-  asker_waits = let all = waits w.who in let one = own w.who in omega (arith, all, one)
+  pub asker_place : (rooms : List Bool) → HaveRoom h.waiting rooms → HasPlace w.who h.routines rooms
+  asker_place rooms room =
+      let all = waits w.who in
+      let one = own w.who in
+      (taken.kept.places w.who (omega (arith, all, one)), room w.who (omega (arith, all, one)))
 
-  pub asker_within : w.who < length h.routines
-  asker_within = let some = asker_waits in kept.places w.who (omega (arith, some))
-
-  pub asker_room : (rooms : List Bool) → HaveRoom h.waiting rooms → slice_get rooms w.who ≡ Some true
-  asker_room rooms room = room w.who asker_waits
-
-  other_counts : (r : Waiter) → o ≡ Some r → count_by (is_waiter r.who) (without t h.waiting) + as_number (w.who == r.who) + 1
-      ≡ count_by (is_waiter r.who) h.waiting
-  other_counts r is =
-      let all = waits r.who in
-      let one = ap (passes (is_waiter r.who)) is ∙ own r.who in
-      omega (arith, all, one)
-
-  pub other_within : (told : Option Answer) → IfSome o (λ r. r.who < length (without_leaver (Some w) told h.routines))
-  other_within told = by o refl
+  pub partner_place : (told : Option Answer) (rooms after : List Bool) → HaveRoom h.waiting rooms → ((k : ℕ) → is_asker k (Some w) ≡ false → slice_get after k ≡ slice_get rooms k)
+      → IfSome o (λ r. HasPlace r.who (without_leaver (Some w) told h.routines) after)
+  partner_place told rooms after room others = by o refl
     where
-      by : (p : Option Waiter) → o ≡ p → IfSome p (λ r. r.who < length (without_leaver (Some w) told h.routines))
+      by : (p : Option Waiter) → o ≡ p → IfSome p (λ r. HasPlace r.who (without_leaver (Some w) told h.routines) after)
       by None is = tt
       by (Some r) is =
-          let all = other_counts r is in
-          subst (λ n. r.who < n) (sym (leaver_len (Some w) told h.routines)) (kept.places r.who (omega (arith, all)))
-
-  pub other_room : (rooms after : List Bool) → HaveRoom h.waiting rooms
-      → ((k : ℕ) → is_asker k (Some w) ≡ false → slice_get after k ≡ slice_get rooms k) → IfSome o (λ r. slice_get after r.who ≡ Some true)
-  other_room rooms after room others = by o refl
-    where
-      by : (p : Option Waiter) → o ≡ p → IfSome p (λ r. slice_get after r.who ≡ Some true)
-      by None is = tt
-      by (Some r) is =
-          let all = other_counts r is in
-          let most = one_waits r.who in
-          others r.who (kept_by (w.who == r.who) (omega (arith, all, most))) ∙ room r.who (omega (arith, all))
+          let all = waits r.who in
+          let one = ap (passes (is_waiter r.who)) is ∙ own r.who in
+          let most = one_waits r.who in (
+            subst (λ n. r.who < n) (sym (leaver_len (Some w) told h.routines)) (taken.kept.places r.who (omega (arith, all, one))),
+            others r.who (kept_by (w.who == r.who) (omega (arith, all, one, most))) ∙ room r.who (omega (arith, all, one)),
+          )
 
   -- who waits on has its room still
-  pub rest_room : (rooms after last : List Bool) → HaveRoom h.waiting rooms
-      → ((k : ℕ) → is_asker k (Some w) ≡ false → slice_get after k ≡ slice_get rooms k)
+  pub rest_room : (rooms after last : List Bool) → HaveRoom h.waiting rooms → ((k : ℕ) → is_asker k (Some w) ≡ false → slice_get after k ≡ slice_get rooms k)
       → ((k : ℕ) → is_asker k o ≡ false → slice_get last k ≡ slice_get after k) → HaveRoom (without t h.waiting) last
-  rest_room rooms after last room first second g some =
+  rest_room rooms after last room earlier later g some =
       let all = waits g in
       let most = one_waits g in
-      second g (other o (omega (arith, all, most, some))) ∙ first g (kept_by (w.who == g) (omega (arith, all, most, some))) ∙ room g (omega (arith, all, some))
+      later g (other o (omega (arith, all, most, some))) ∙ earlier g (kept_by (w.who == g) (omega (arith, all, most, some))) ∙ room g (omega (arith, all, some))
     where
       other : (p : Option Waiter) → passes (is_waiter g) p ≡ 0 → is_asker g p ≡ false
       other None none = refl
       other (Some r) none = kept_by (r.who == g) none
 
 -- a partner, which is told an answer, keeps its routine
-pub partner_keeps : {R : Type 0} (o : Option Waiter) (way : ℕ) (op : Op) (told : Option Answer) (routines : List (Option R)) → IsPartnerRow o way op told
+pub partner_keeps : {R : Type 0} (o : Option Waiter) (branch : ℕ) (op : Op) (told : Option Answer) (routines : List (Option R)) → IsPartnerRow o branch op told
     → without_leaver o told routines ≡ routines
-partner_keeps None way op told routines row = refl
-partner_keeps (Some w) way op told routines row = ap (λ told. without_leaver (Some w) told routines) row.0.1
+partner_keeps None branch op told routines row = refl
+partner_keeps (Some w) branch op told routines row = ap (λ told. without_leaver (Some w) told routines) row.0.1
 
 -- what a hub holds it holds after a firing
-pub fired : {R : Type 0} (k l : ReplayState) (old new : HubState R) (t : Choice) (f : Fires old t new) → t.partner ≤ length old.waiting
-    → t.partner ≢ t.place + 1 → Holds k old → stop_of old ≡ None → StandsFor old.decls.declarations l (old.events ++ f.e ∷ []) → Holds l new
-fired k l old new t f partner apart holds on stands =
+pub fired : {R P Q : Type 0} {k l : ReplayState} {old new : HubState R} {t : Choice} (f : Fires old t new) → t.partner ≤ length old.waiting
+    → t.partner ≢ t.place + 1 → Holds k old → stop_of old ≡ None → StandsFor old.decls.declarations l (old.events ++ f.e ∷ []) → P → Q
+    → Fires old t new × (Holds l new × P × Q)
+fired {R} {P} {Q} {k} {l} {old} {new} {t} f partner apart holds on stands p q =
     let (decls, limit, out, bad) = f.same in
-    let len = ap length f.routines ∙ leaver_len (Some f.w) f.told old.routines in
-    record {
-      kept = fired_kept old new t f partner apart (below_limit old on holds.kept.limited) holds.kept;
-      stands = rw (decls, f.events) stands;
-      few = rw limit holds.few;
-      few_goroutines = rw len holds.few_goroutines;
-      count = rw (len, decls) holds.count;
-      sound = λ _. rw (f.waiting, decls) (all_without (λ w. IsTrue (is_sound old.decls w)) t old.waiting (holds.sound on));
-      bad_waits = λ g is. absurd (bad_stops old g (sym bad ∙ is) on);
-    }
+    let len = ap length f.routines ∙ leaver_len (Some f.w) f.told old.routines in (
+      f,
+      (
+        record {
+          kept = fired_kept old new t f partner apart (below_limit old on holds.kept.limited) holds.kept;
+          stands = rw (decls, f.events) stands;
+          few = rw limit holds.few;
+          few_goroutines = rw len holds.few_goroutines;
+          count = rw (len, decls) holds.count;
+          sound = λ _. rw (f.waiting, decls) (all_without (λ w. IsTrue (is_sound old.decls w)) t old.waiting (holds.sound on));
+          bad_waits = λ g is. absurd (bad_stops old g (sym bad ∙ is) on);
+        },
+        p,
+        q,
+      ),
+    )

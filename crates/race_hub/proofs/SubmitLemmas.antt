@@ -12,7 +12,7 @@ use Rattle.race_hub.specs.{HubHolds.HaveRoom, Holds.Holds, Job.JobState, Kept.{s
 use Rattle.race_hub.specs.{Recording.HasBadRequest, Submits.{is_bad, is_stray, ends_hub, Takes, Submits}}
 use Rattle.race_hub.proofs.{TableLemmas.{both_true, same_number}, EndLemmas.end_while_out}
 use Rattle.race_hub.proofs.EndedLemmas.{bad_stays, bad_joins, out_waits_not, standing_stays}
-use Rattle.race_hub.proofs.{KeptLemmas.{taken_kept, submitted_kept, fewer_out, at_most_one, routine_there}, OnceLemmas.{count_append, count_one, count_cons}}
+use Rattle.race_hub.proofs.{KeptLemmas.{taken_kept, submitted_kept, was_out, fewer_out, routine_there}, OnceLemmas.{at_most_one, count_append, count_one, count_cons}}
 
 all_one : {X : Type 0} (P : X → Type 0) (x : X) → P x → All P (x ∷ [])
 all_one P x holds zero d less = holds
@@ -30,10 +30,8 @@ module _ {R : Type 0} where
       by : (a b : Bool) (bad : Option ℕ) (full : Bool) → bad ≡ Some g
           → ◌≡◌ {A = Option End} (if a then Some End.Main else (if b then Some End.Fault
           else elim bad [ Some g ↦ Some (End.Bad g) | None ↦ if full then Some End.Limit else None ])) None → ⊥
-      by true b bad full is on = none-some _ (sym on)
-      by false true bad full is on = none-some _ (sym on)
-      by false false (Some g) full is on = none-some _ (sym on)
       by false false None full is on = none-some _ is
+      by _ _ _ full is on = absurd cc
 
   not_bad : (h : HubState R) (w : Waiter) (stop : Option End) → stop ≡ None → (is_none stop && is_bad h w) ≡ false → is_sound h.decls w ≡ true
   not_bad h w (Some e) on is = absurd (none-some e (sym on))
@@ -43,49 +41,6 @@ module _ {R : Type 0} where
       by true b is = refl
       by false b is = absurd cc
 
-  -- what a hub holds it holds with one job back, whose request was bad or not
-  pub submitted : (k : ReplayState) (old new : HubState R) (job : JobState R) (t : Submits old job new) (bad : Bool) → is_stray old job ≡ false
-      → bad ≡ (is_none (stop_of old) && is_bad old (record { who = job.who; asked = t.asked })) → new.bad ≡ (if bad then Some job.who else old.bad)
-      → Holds k old → Holds k new
-  submitted k old new job t bad back test is holds =
-      let (decls, events, limit, ready) = t.same in
-      let len = ap length t.routines ∙ length-set old.routines job.who (Some job.routine) in
-      let w : Waiter = record { who = job.who; asked = t.asked } in
-      record {
-        kept = submitted_kept old new job back t holds.kept;
-        stands = rw (decls, events) holds.stands;
-        few = rw limit holds.few;
-        few_goroutines = rw len holds.few_goroutines;
-        count = rw (len, decls) holds.count;
-        sound = λ on.
-            let (before, sound) = sound_by bad test is on in
-            rw (t.waiting, decls) (All-append (λ w. IsTrue (is_sound old.decls w)) old.waiting (w ∷ []) (holds.sound before)
-            (all_one (λ w. IsTrue (is_sound old.decls w)) w sound));
-        bad_waits = λ g named. rw (decls, events, t.waiting) (bad_by g bad test (sym is ∙ named));
-      }
-    where
-      sound_by : (b : Bool) → b ≡ (is_none (stop_of old) && is_bad old (record { who = job.who; asked = t.asked }))
-          → new.bad ≡ (if b then Some job.who else old.bad) → stop_of new ≡ None
-          → (stop_of old ≡ None) × (is_sound old.decls (record { who = job.who; asked = t.asked }) ≡ true)
-      sound_by true test is on = absurd (bad_stops new job.who is on)
-      sound_by false test is on =
-          let (decls, events, limit, ready) = t.same in
-          let before = sym (stop_same old new events limit is) ∙ on in
-          (before, not_bad old (record { who = job.who; asked = t.asked }) (stop_of old) before (sym test))
-
-      bad_by : (g : ℕ) (b : Bool) → b ≡ (is_none (stop_of old) && is_bad old (record { who = job.who; asked = t.asked }))
-          → (if b then Some job.who else old.bad) ≡ Some g
-          → HasBadRequest old.decls old.events (old.waiting ++ record { who = job.who; asked = t.asked } ∷ []) g
-      bad_by g false test named =
-          bad_stays old.decls old.events old.waiting (record { who = job.who; asked = t.asked } ∷ []) g (holds.bad_waits g named)
-      bad_by g true test named =
-          let one : as_number (job.who == job.who) ≡ 1 = ap as_number (eq-eqb job.who job.who refl) in
-          let gone = fewer_out old new job back t job.who in
-          let none = out_waits_not old job.who (count_by (λ o. o == job.who) new.out) holds.kept.once (omega (arith, gone, one)) in
-          subst (HasBadRequest old.decls old.events (old.waiting ++ record { who = job.who; asked = t.asked } ∷ [])) (some_is named)
-          (bad_joins old.decls old.events old.waiting (record { who = job.who; asked = t.asked }) none
-          (both_true (is_none (stop_of old)) (is_bad old (record { who = job.who; asked = t.asked })) (sym test)).1)
-
   -- whether its request ends the hub, where its job is out
   pub ends_test : (h : HubState R) (job : JobState R) (w : Waiter) → list_any (λ o. o == job.who) h.out ≡ true → w.who ≡ job.who → job.asked ≡ Some w.asked
       → ends_hub h job ≡ (is_none (stop_of h) && is_bad h w)
@@ -94,20 +49,77 @@ module _ {R : Type 0} where
       ∙ ap (λ n. is_none (end_of h) && is_bad h (record { who = n; asked = w.asked })) (sym same)
       ∙ ap (λ (e : Option End). is_none e && is_bad h w) (end_while_out h (λ o. o == job.who) among)
 
+  -- what the job asks
+  abbrev waiter : JobState R → Request → Waiter
+  waiter job asked = record { who = job.who; asked = asked }
+
+  -- what a hub holds it holds with one job back, whose request was bad or not
+  pub submitted : {k : ReplayState} {old new : HubState R} {job : JobState R} {P Q : Type 0} → Submits old job new → is_stray old job ≡ false
+      → Holds k old → P → Q → Submits old job new × (Holds k new × P × Q)
+  submitted {k} {old} {new} {job} {P} {Q} t back holds p q =
+      let (decls, events, limit, ready) = t.same in
+      let len = ap length t.routines ∙ length-set old.routines job.who (Some job.routine) in (
+        t,
+        (
+          record {
+            kept = submitted_kept old new job back t holds.kept;
+            stands = rw (decls, events) holds.stands;
+            few = rw limit holds.few;
+            few_goroutines = rw len holds.few_goroutines;
+            count = rw (len, decls) holds.count;
+            sound = λ on.
+                let (before, sound) = sound_by (is_none (stop_of old) && is_bad old (waiter job t.asked)) refl is on in
+                rw (t.waiting, decls) (All-append (λ w. IsTrue (is_sound old.decls w)) old.waiting (waiter job t.asked ∷ []) (holds.sound before)
+                (all_one (λ w. IsTrue (is_sound old.decls w)) (waiter job t.asked) sound));
+            bad_waits = λ g named. rw (decls, events, t.waiting) (bad_by g (is_none (stop_of old) && is_bad old (waiter job t.asked)) refl (sym is ∙ named));
+          },
+          p,
+          q,
+        ),
+      )
+    where
+      is : new.bad ≡ (if is_none (stop_of old) && is_bad old (waiter job t.asked) then Some job.who else old.bad)
+      is = t.bad ∙ ap (λ b. if b then Some job.who else old.bad) (ends_test old job (waiter job t.asked) (was_out old job back) refl t.asks)
+
+      sound_by : (b : Bool) → b ≡ (is_none (stop_of old) && is_bad old (waiter job t.asked)) → new.bad ≡ (if b then Some job.who else old.bad) → stop_of new ≡ None
+          → (stop_of old ≡ None) × (is_sound old.decls (waiter job t.asked) ≡ true)
+      sound_by true test is on = absurd (bad_stops new job.who is on)
+      sound_by false test is on =
+          let (decls, events, limit, ready) = t.same in
+          let before = sym (stop_same old new events limit is) ∙ on in
+          (before, not_bad old (waiter job t.asked) (stop_of old) before (sym test))
+
+      bad_by : (g : ℕ) (b : Bool) → b ≡ (is_none (stop_of old) && is_bad old (waiter job t.asked)) → (if b then Some job.who else old.bad) ≡ Some g
+          → HasBadRequest old.decls old.events (old.waiting ++ waiter job t.asked ∷ []) g
+      bad_by g false test named = bad_stays old.decls old.events old.waiting (waiter job t.asked ∷ []) g (holds.bad_waits g named)
+      bad_by g true test named =
+          let one : as_number (job.who == job.who) ≡ 1 = ap as_number (eq-eqb job.who job.who refl) in
+          let gone = fewer_out old new job back t job.who in
+          let none = out_waits_not old job.who (count_by (λ o. o == job.who) new.out) holds.kept.once (omega (arith, gone, one)) in
+          subst (HasBadRequest old.decls old.events (old.waiting ++ waiter job t.asked ∷ [])) (some_is named)
+          (bad_joins old.decls old.events old.waiting (waiter job t.asked) none (both_true (is_none (stop_of old)) (is_bad old (waiter job t.asked)) (sym test)).1)
+
   -- and with one job out
-  pub taken : (k : ReplayState) (old new : HubState R) (job : JobState R) → Takes old job new → Holds k old → Holds k new
-  taken k old new job t holds =
+  pub taken : {k : ReplayState} {old new : HubState R} {job : JobState R} {P Q : Type 0} → Takes old job new → Holds k old → P → Q
+      → Takes old job new × (Holds k new × P × Q)
+  taken {k} {old} {new} {job} {P} {Q} t holds p q =
       let (decls, events, limit, waiting, bad) = t.same in
-      let len = ap length t.routines ∙ length-set old.routines job.who None in
-      record {
-        kept = taken_kept old new job t holds.kept;
-        stands = rw (decls, events) holds.stands;
-        few = rw limit holds.few;
-        few_goroutines = rw len holds.few_goroutines;
-        count = rw (len, decls) holds.count;
-        sound = λ on. rw (waiting, decls) (holds.sound (sym (stop_same old new events limit bad) ∙ on));
-        bad_waits = λ g is. rw (decls, events, waiting) (holds.bad_waits g (sym bad ∙ is));
-      }
+      let len = ap length t.routines ∙ length-set old.routines job.who None in (
+        t,
+        (
+          record {
+            kept = taken_kept old new job t holds.kept;
+            stands = rw (decls, events) holds.stands;
+            few = rw limit holds.few;
+            few_goroutines = rw len holds.few_goroutines;
+            count = rw (len, decls) holds.count;
+            sound = λ on. rw (waiting, decls) (holds.sound (sym (stop_same old new events limit bad) ∙ on));
+            bad_waits = λ g is. rw (decls, events, waiting) (holds.bad_waits g (sym bad ∙ is));
+          },
+          p,
+          q,
+        ),
+      )
 
   -- whoever is ready has its routine
   pub ready_routine : (h : HubState R) (who : ℕ) (answer : Answer) (rest : List (ℕ × Answer)) → h.ready ≡ (who, answer) ∷ rest → IsKept h

@@ -27,10 +27,10 @@ without_leaver _ _ routines = routines
 abbrev pub partner_of : {X : Type 0} → Choice → List X → Option X
 partner_of t xs = if t.partner == 0 then None else slice_get xs (t.partner - 1)
 
--- the partner does its part of the operation by that way, and is told that; without a partner nobody is
+-- the partner does its part of the operation by that branch, and is told that; without a partner nobody is
 abbrev pub IsPartnerRow : Option Waiter → ℕ → Op → Option Answer → Type 0
-IsPartnerRow (Some w) way op told = ((answer : Answer) × (told ≡ Some answer)) × IsRow w.asked.ask way (done_by w.who op) told
-IsPartnerRow None way op told = told ≡ None
+IsPartnerRow (Some w) branch op told = ((answer : Answer) × (told ≡ Some answer)) × IsRow w.asked.ask branch (done_by w.who op) told
+IsPartnerRow None branch op told = told ≡ None
 
 -- the list without what stands at the choice's places
 abbrev pub without : {X : Type 0} → Choice → List X → List X

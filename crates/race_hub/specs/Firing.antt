@@ -1,6 +1,7 @@
 -- What a firing is to do, by the choice that is picked.
-use Rattle.std.specs.Prelude.{◌≡◌, ◌≢◌, ◌<◌, ◌≤◌, ◌+◌, ◌-◌, List, length, slice_get, Option, Some, None, IsTrue}
-use Rattle.race_records.specs.{declared.event.Event.Event, Declarations.capacity_of, Events.fits}
+use Rattle.std.specs.Prelude.{ℕ, ◌≡◌, ◌≢◌, ◌<◌, ◌≤◌, ◌+◌, ◌-◌, List, length, slice_get, Option, Some, None, IsTrue, Bool, true}
+use Rattle.race_records.specs.{declared.{event.Event.Event, trace.TheConstants.MAX_EVENTS}, Declarations.{DeclsState, capacity_of}, Events.fits}
+use Rattle.race_legal.specs.ReplayState.{ReplayState, counts_in, IsInRange}
 use Rattle.race_model.specs.Legal.{broken}
 use Rattle.race_requests.specs.declared.{choice.Choice.Choice, request.{Answer.Answer, Waiter.Waiter}}
 use Rattle.race_requests.specs.{Choices.event_of, Table.{IsRow, done_by}}
@@ -30,3 +31,14 @@ pub record IsFiring {R : Type 0} (h : HubState R) (f : Firing) : Type 0 where
   pub legal : broken (capacity_of h.decls.declarations) h.events f.event ≡ None
   pub fits : IsTrue (fits h.decls f.event)
   pub routine : HasRoutine h.routines (started_by f.event.op)
+
+-- the event can be appended: it names what there is, and neither the replay nor the trace is full
+pub record CanAppend (k : ReplayState) (decls : DeclsState) (past : List Event) (e : Event) : Type 0 where
+  pub range : IsInRange (counts_in k) e
+  pub room : k.len < MAX_EVENTS
+  pub fits : IsTrue (fits decls e)
+  pub few : length past < MAX_EVENTS
+
+-- g has its place among the routines, and its log has room for a step
+abbrev pub HasPlace : {R : Type 0} → ℕ → List (Option R) → List Bool → Type 0
+HasPlace g routines rooms = (g < length routines) × (slice_get rooms g ≡ Some true)

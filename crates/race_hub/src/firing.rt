@@ -28,8 +28,8 @@ fn partner_told(waiting: &[Waiter], choice: Choice, op: &Op) -> Option<Answer>
         return None;
     }
     let waiter = &waiting[choice.partner as usize - 1];
-    let way = choice.partner_offer.saturating_sub(1);
-    match answer_of(waiter.who, &waiter.asked.ask, way, op) {
+    let branch = choice.partner_offer.saturating_sub(1);
+    match answer_of(waiter.who, &waiter.asked.ask, branch, op) {
         Some(told) => told,
         None => unreachable!(),
     }

@@ -2,6 +2,7 @@
 #![tactic(auto)]
 
 mod ending;
+mod fields;
 mod firing;
 mod hub;
 mod job;

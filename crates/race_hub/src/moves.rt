@@ -1,11 +1,11 @@
 //! How a choice moves goroutines from list to list. Room is made first, so that nothing behind that takes memory.
-ghost use Rattle.std.specs.Prelude.{ℕ, ◌≡◌, ◌≢◌, ◌==◌, true, false, ◌<◌, ◌≤◌, ◌+◌, ◌++◌, Some, Ok, Err, length, slice_get};
+ghost use Rattle.std.specs.Prelude.{ℕ, ◌≡◌, ◌≢◌, ◌==◌, true, false, ◌<◌, ◌≤◌, ◌+◌, ◌++◌, Some, length, slice_get};
 ghost use Rattle.std.specs.{Prelude.{vec_len, vec_capacity, if◌then◌else◌, IfSome, OnOk}, List.{list_any, position_or_len}};
 ghost use Rattle.race_hub.specs.{Logs.with_step, Submits.without_first, Fires.{without, partner_of, is_asker, goes_on}};
-ghost use Rattle.race_hub.specs.Fires.{without_leaver, begins};
+ghost use Rattle.race_hub.specs.{Fires.{without_leaver, begins}, Firing.HasPlace};
 
 use crate::logs::Logs;
-use crate::{Answer, Choice, SubmitFault, Waiter};
+use crate::{Answer, Choice, Waiter};
 use std::alloc::{AllocError, Allocator};
 
 /// Makes room for three more who are ready, and for the turns of all of them.
@@ -59,8 +59,7 @@ pub(crate) fn tell<R: Drop, A: Allocator>(
     waiter: Option<Waiter>,
     told: Option<Answer>,
 )
-    requires within { IfSome waiter (λ w. w.who < length routines.old.items) }
-    requires room { IfSome waiter (λ w. slice_get logs.old.have_room w.who ≡ Some true) }
+    requires place { IfSome waiter (λ w. HasPlace w.who routines.old.items logs.old.have_room) }
     requires ready { vec_len ready.old < vec_capacity ready.old }
     ensures routines { routines.new.items ≡ without_leaver waiter told routines.old.items }
     ensures logs { logs.new.logs ≡ with_step waiter told logs.old.logs }
@@ -138,15 +137,4 @@ pub(crate) fn named(known: Option<u32>, bad: bool, who: u32) -> Option<u32>
     ensures { result ≡ (if bad then Some who else known) }
 {
     if bad { Some(who) } else { known }
-}
-
-/// What comes of a job that was put back, whose request was bad or not.
-pub(crate) fn taken<R, A: Allocator>(bad: bool) -> Result<(), SubmitFault<R, A>>
-    ensures { result ≡ (if bad then Err SubmitFault.BadRequest else Ok tt) }
-{
-    if bad {
-        Err(SubmitFault::BadRequest)
-    } else {
-        Ok(())
-    }
 }

@@ -5,7 +5,7 @@ use Rattle.std.proofs.{Common.{◌∙◌, subst, arith, append-nil, IsTrue}, Mat
 use Rattle.std.proofs.lemmas.Bool.{eqb-false, not-false, false_from_ne_true, false≢true, Decides.nat_tests}
 use Rattle.std.specs.Option.{option_to_list}
 use Rattle.race_records.specs.declared.event.{Event.Event, Op.{Op, TheVariants.{Go, Exit, OnceBegin, OnceEnd}}}
-use Rattle.race_records.specs.{declared.kind.Kind.Kind, Declarations.Declaration, Parts.op_is_in_range}
+use Rattle.race_records.specs.{declared.kind.Kind.Kind, Declarations.Declaration, Operands.op_is_in_range}
 use Rattle.race_model.specs.{Events.{gives, once_begins, once_ends, count}, State.{is_begun, is_ended, unended_once}}
 use Rattle.race_model.{specs.State.innermost, proofs.CountSteps.{as_number, has_push}}
 use Rattle.race_legal.specs.ReplayState.{ReplayState, counts_in, stack_in, innermost_in, begun_in, ended_in}

@@ -3,7 +3,7 @@ use Rattle.std.proofs.Common.{◌≡◌, ℕ, ◌<◌, ◌&&◌, Bool, true, Lis
 use Rattle.std.proofs.lemmas.Bool.Decides.{nat_tests}
 use Rattle.race_records.specs.declared.{event.Event.Event, kind.Kind.Kind, trace.TheConstants.MAX_EVENTS}
 use Rattle.race_records.specs.{Declarations.{Declaration, DeclsState, count_of, counts_of}, Events.op_fits}
-use Rattle.race_records.specs.{Events.{second_place_fits, is_right_kind, fits}, Parts.{says, has_two_places}}
+use Rattle.race_records.specs.{Events.{second_place_fits, is_right_kind, fits}, Operands.{says, has_two_places}}
 use Rattle.race_legal.specs.{ReplayState.{ReplayState, IsInRange, counts_in}, StandsFor.StandsFor}
 
 -- an event that fits is in range of the declarations

@@ -9,7 +9,7 @@ use Rattle.race_records.specs.declared.event.Op.TheVariants.{Go, Exit, Read, Wri
 use Rattle.race_records.specs.declared.event.Op.TheVariants.{Default, Lock, Unlock, RLock, RUnlock, TryLock, TryRLock}
 use Rattle.race_records.specs.declared.event.Op.TheVariants.{TryFail, OnceBegin, OnceEnd, OnceDone, Fault}
 use Rattle.race_records.specs.{declared.cases.{Case.Case, Dir.Dir}, Declarations.{Declaration, capacity_of}}
-use Rattle.race_records.specs.Parts.{op_is_in_range, chan_is_in_range, case_is_in_range, named_is_in_range, failed_at}
+use Rattle.race_records.specs.Operands.{op_is_in_range, chan_is_in_range, case_is_in_range, named_is_in_range, failed_at}
 use Rattle.race_model.specs.Events.{starts, is_exit, is_fault, gives, receives, sends, closes, locks, unlocks, rlocks}
 use Rattle.race_model.specs.{Events.{runlocks, once_begins, once_ends}, State.{runs, written, sent}, Legal.broken}
 use Rattle.race_model.specs.Legal.{least_broken, op_rules, receiver_runs, actors_run, can_proceed, is_ready}

@@ -2,7 +2,7 @@
 use Rattle.std.specs.Prelude.{ℕ, List, Option, Some, None}
 use Rattle.race_records.specs.declared.event.Event.{Event}
 use Rattle.race_model.specs.Legal.{IsLegal, IsIllegalAt}
-use Rattle.race_legal.specs.{declared.listing.Illegal.Illegal, Rules.number_of}
+use Rattle.race_legal.specs.{declared.legality.Illegal.Illegal, Rules.number_of}
 
 -- the list is legal, or the first event that breaks a rule is told, with the least rule that it breaks
 abbrev pub IsJudged : (ℕ → ℕ) → List Event → Option Illegal → Type 0

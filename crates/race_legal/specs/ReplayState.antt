@@ -1,7 +1,7 @@
 -- What a replay keeps: a table for each kind of object.
 use Rattle.std.specs.Prelude.{ℕ, ◌≡◌, ◌<◌, ◌-◌, ◌==◌, ◌||◌, ◌&&◌, not, nat_lt, Bool, false, IsTrue, List, [], length}
 use Rattle.std.specs.{Prelude.{slice_get, Option}, List.slice_index_or}
-use Rattle.race_records.specs.{declared.{kind.Kind.Kind, event.Event.Event}, Parts.op_is_in_range}
+use Rattle.race_records.specs.{declared.{kind.Kind.Kind, event.Event.Event}, Operands.op_is_in_range}
 
 -- with so many objects of each kind, the event's goroutine is in range and all that its operation names
 abbrev pub IsInRange : (Kind → ℕ) → Event → Type 0

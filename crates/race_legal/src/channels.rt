@@ -3,7 +3,7 @@ ghost use Rattle.std.specs.Prelude.{◌≡◌, if◌then◌else◌, ℕ, ◌<◌
 ghost use Rattle.std.specs.{Prelude.{is_ok, IfOk, IsTrue}, List.{slice_index_or, list_all, list_any}};
 ghost use Rattle.std.specs.Option.{option_map};
 ghost use Rattle.race_records.specs.{declared.kind.Kind.Kind, Declarations.{count_of, capacity_of}};
-ghost use Rattle.race_records.specs.Parts.{case_is_in_range};
+ghost use Rattle.race_records.specs.Operands.{case_is_in_range};
 ghost use Rattle.race_model.specs.Legal.{least_broken};
 ghost use Rattle.race_legal.specs.{Rules.number_of, ReplayState.{ChannelsState, closed_in, queue_in}};
 ghost use Rattle.race_legal.specs.{After.{with_sent, with_received, with_closed}, RulesKept.{send_rules, recv_rules}};

@@ -3,7 +3,7 @@
 
 mod channels;
 mod goroutines;
-mod listing;
+mod legality;
 mod locks;
 mod onces;
 mod queue;
@@ -11,6 +11,6 @@ mod replay;
 mod rule;
 mod stack;
 
-pub use listing::{Illegal, legal};
+pub use legality::{Illegal, legal};
 pub use replay::{Broken, Replay};
 pub use rule::Rule;

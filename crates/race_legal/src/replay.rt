@@ -4,7 +4,7 @@
 //! of the memory model on the list of events do is a matter of lists alone (proofs/ReplayLemmas).
 ghost use Rattle.std.specs.Prelude.{◌≡◌, if◌then◌else◌, ℕ, ◌+◌, ◌<◌, ◌≤◌, [], length, is_ok, IsTrue, true, Some, None};
 ghost use Rattle.std.specs.{Prelude.{Err, IfOk, OnOk, OnErr}, Option.{option_map, option_map_or}};
-ghost use Rattle.race_records.specs.Parts.{op_is_in_range, named_is_in_range, failed_at};
+ghost use Rattle.race_records.specs.Operands.{op_is_in_range, named_is_in_range, failed_at};
 ghost use Rattle.race_model.specs.Legal.{least_broken};
 ghost use Rattle.race_legal.specs.{Rules.number_of, ReplayState.{ReplayState, IsInRange, counts_in, value_in}};
 ghost use Rattle.race_legal.specs.{ReplayState.readers_in, After.after, RulesKept.{op_rules_in, cause_holds_in}};

@@ -24,3 +24,5 @@ pub mod Uniqueness
 pub mod PlacesAside
 pub mod ExampleLemmas
 pub mod ReadFirst
+pub mod PredictLemmas
+pub mod PredictTests

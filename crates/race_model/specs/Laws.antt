@@ -3,7 +3,8 @@
 use Rattle.std.specs.Prelude.{ℕ, ◌≡◌, ◌<◌, ◌↔◌, ◌+◌, IsTrue, List, take}
 use Rattle.race_records.specs.declared.event.{Event.Event, Op.TheVariants.{RecvClosed, OnceDone}}
 use Rattle.race_model.specs.Events.{At, operations, sends, receives, closes, locks, unlocks, rlocks, once_ends, count}
-use Rattle.race_model.specs.{Events.IsKth, Legal.IsLegal, Order.HappensBefore, Race.{IsDataRaceFree, IsReportedRace}}
+use Rattle.race_model.specs.{Events.IsKth, Legal.IsLegal, Order.HappensBefore, Race.{IsDataRaceFree, IsRace, IsReportedRace}}
+use Rattle.race_model.specs.Predict.{CouldHaveRun, EndsWithRace}
 use Rattle.race_model.specs.{Reorder.{IsReordering, own_order, EachReadFindsTheSame}, Verdict.{Verdict, IsVerdict}}
 
 -- what happens before stands before in the list
@@ -77,3 +78,11 @@ abbrev pub OnceEndStandsBeforeEachOnceDone : List Event → Type 0
 OnceEndStandsBeforeEachOnceDone events =
     (caps : ℕ → ℕ) → IsLegal caps events → (o i j : ℕ) (s r : Event) → At events i s → At events j r
     → IsTrue (once_ends o s.op) → r.op ≡ OnceDone o → i < j
+
+-- who ends with the two accesses has a race there: no edge leaves an access, and nothing stands between neighbours
+abbrev pub EndsInARace : List Event → Type 0
+EndsInARace events = (caps : ℕ → ℕ) (x : ℕ) (ends : EndsWithRace events x) → IsRace caps events x ends.before (ends.before + 1)
+
+-- each front of a legal list, and so the list itself, is a run that its goroutines could have had
+abbrev pub EachFrontCouldHaveRun : List Event → Type 0
+EachFrontCouldHaveRun events = (caps : ℕ → ℕ) (n : ℕ) → IsLegal caps events → CouldHaveRun caps events (take n events)

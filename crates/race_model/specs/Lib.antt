@@ -6,6 +6,7 @@ pub mod Synchronized
 pub mod Race
 pub mod Verdict
 pub mod Reorder
+pub mod Predict
 pub mod Known
 pub mod Clocks
 pub mod Laws
@@ -13,3 +14,4 @@ pub mod Examples
 pub mod LockExamples
 pub mod OnceExamples
 pub mod TryExamples
+pub mod PredictExamples

@@ -1,6 +1,7 @@
 //! The laws of the definitions. Each function does nothing, and its contract is the law.
 ghost use Rattle.race_model.specs.Laws.{AsManyLocksAsUnlocksStandBeforeAnRLock, CloseStandsBeforeWhatFindsIt};
-ghost use Rattle.race_model.specs.Laws.{HappensBeforeGoesUp, HappensBeforeIsTransitive, HasOneReportedRace};
+ghost use Rattle.race_model.specs.Laws.{EachFrontCouldHaveRun, EndsInARace, HappensBeforeGoesUp};
+ghost use Rattle.race_model.specs.Laws.{HappensBeforeIsTransitive, HasOneReportedRace};
 ghost use Rattle.race_model.specs.Laws.{HasOneVerdict, OnceEndStandsBeforeEachOnceDone, OwnOrderIsReordering};
 ghost use Rattle.race_model.specs.Laws.{ReceiveStandsBeforeTheSendItMakesRoomFor, ReorderingsFindTheSame};
 ghost use Rattle.race_model.specs.Laws.{SendStandsBeforeItsReceive, UnlocksOfALowerNumberStandBeforeALock};
@@ -71,4 +72,14 @@ pub fn as_many_locks_as_unlocks_stand_before_an_rlock(_events: &[Event])
 /// In a legal list the end of a once's function stands before each call that finds it ended.
 pub fn once_end_stands_before_each_once_done(_events: &[Event])
     ensures { OnceEndStandsBeforeEachOnceDone _events.now }
+{}
+
+/// A list that ends with the two accesses of a race, by two goroutines, has this race.
+pub fn ends_in_a_race(_events: &[Event])
+    ensures { EndsInARace _events.now }
+{}
+
+/// Each front of a legal list is a run that its goroutines could have had.
+pub fn each_front_could_have_run(_events: &[Event])
+    ensures { EachFrontCouldHaveRun _events.now }
 {}

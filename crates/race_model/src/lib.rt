@@ -7,4 +7,5 @@ pub mod examples;
 pub mod laws;
 pub mod lock_examples;
 pub mod once_examples;
+pub mod predict_examples;
 pub mod try_examples;

@@ -6,7 +6,7 @@ use Rattle.std.proofs.Math.{Nat.{add-mul-mod_self_right, mod-eq_of_lt}, Pow.pow_
 use Rattle.std.proofs.lemmas.{Bool.{lt-ltb, ltb-false, le-ltb}, List.{length-take-le, take_more_set}}
 use Rattle.std.{proofs.lemmas.Nat.Bits.{bit_at-suc, bit_at_lowest}, specs.Int.bit_at}
 use Rattle.race_records.specs.{declared.cases.Case.Case, Cases.{case_of, cases_of, kept, kept_chan}}
-use Rattle.race_records.specs.Parts.{chan_is_in_range, case_is_in_range}
+use Rattle.race_records.specs.Operands.{chan_is_in_range, case_is_in_range}
 
 -- there is a case for each number
 pub cases_len : (numbers : List ℕ) (sends nils : ℕ) → length (cases_of numbers sends nils) ≡ length numbers

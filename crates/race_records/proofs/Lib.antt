@@ -12,5 +12,5 @@ pub mod AlikeLemmas
 pub mod CaseLemmas
 pub mod DeviceLemmas
 pub mod PageLemmas
-pub mod PartLaws
-pub mod NounLaws
+pub mod OperandLaws
+pub mod DeclKeywordLaws

@@ -19,6 +19,10 @@ source_reads source = source.reads
 abbrev pub source_failures : {R : Type 0} → Source R → ℕ
 source_failures source = source.failures
 
+-- the key for the hashes of its text's names
+abbrev pub source_key : {R : Type 0} → Source R → ℕ
+source_key source = source.key
+
 -- the writer itself
 abbrev pub writer_of : {W : Type 0} → Sink W → W
 writer_of sink = sink.writer

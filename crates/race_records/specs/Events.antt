@@ -4,8 +4,8 @@ use Rattle.std.specs.{Prelude.{Some, None, IsTrue, All}, List.list_all, Option.o
 use Rattle.race_records.specs.declared.{event.{Event.Event, Op.Op}, kind.Kind.Kind, trace.PushFault.PushFault}
 use Rattle.race_records.specs.declared.trace.PushFault.TheVariants.{BadNumber, WrongKind, Full}
 use Rattle.race_records.specs.declared.{trace.TheConstants.MAX_EVENTS, version.Version.Version}
-use Rattle.race_records.specs.{Declarations.{Declaration, DeclsState, count_of, counts_of, is_rw}, Parts.says}
-use Rattle.race_records.specs.Parts.{has_verb, has_two_places, op_is_in_range, part_is_limited, rwmutex_of}
+use Rattle.race_records.specs.{Declarations.{Declaration, DeclsState, count_of, counts_of, is_rw}, Operands.says}
+use Rattle.race_records.specs.Operands.{has_op_keyword, has_two_places, op_is_in_range, operand_is_limited, rwmutex_of}
 
 -- the numbers that the operation names are declared, each of its kind
 abbrev pub op_fits : List Declaration → Op → Bool
@@ -28,7 +28,7 @@ lock_fits ds op = option_map_or (is_rw ds) (rwmutex_of op) true
 
 -- the version has the operation
 abbrev pub has_op : Version → Op → Bool
-has_op version op = has_verb version (says op).0
+has_op version op = has_op_keyword version (says op).0
 
 -- the operation is one of the declarations' version, and its lock is an rwmutex where it wants one
 abbrev pub is_right_kind : DeclsState → Op → Bool
@@ -40,7 +40,7 @@ fits decls e = is_in_range decls e && is_right_kind decls e.op
 
 -- each value of the operation is a u64, and it has at most 16 cases
 abbrev pub op_is_limited : Op → Bool
-op_is_limited op = list_all part_is_limited (says op).1
+op_is_limited op = list_all operand_is_limited (says op).1
 
 -- a `Trace` as its callers see it. `spare` is for how many more events there is room
 pub record TraceState : Type 0 where

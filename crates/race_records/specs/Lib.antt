@@ -4,8 +4,8 @@ pub mod Refusal
 pub mod Declarations
 pub mod Equality
 pub mod TraceEquality
-pub mod Parts
-pub mod Nouns
+pub mod Operands
+pub mod DeclKeywords
 pub mod Events
 pub mod Tables
 pub mod Rows

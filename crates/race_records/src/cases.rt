@@ -1,7 +1,7 @@
 //! The cases of a select.
 ghost use Rattle.std.specs.Prelude.{◌≡◌, ◌<◌, ◌≤◌, ◌↔◌, [], ◌∷◌, ◌++◌, length, IsTrue, IfSome, Some, slice_get, IsErr};
 ghost use Rattle.std.specs.Prelude.{OnOk, OnErr};
-ghost use Rattle.race_records.specs.Parts.{KeepsRange};
+ghost use Rattle.race_records.specs.Operands.{KeepsRange};
 ghost use Rattle.race_records.specs.Cases as spec;
 
 use std::marker::Model;

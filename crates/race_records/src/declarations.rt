@@ -43,7 +43,8 @@ pub enum DeclFault {
 ///
 /// The number of an object is the count of objects of its kind that were declared before it;
 /// goroutines count from 1, since `main` is 0 and isn't declared. All kinds share one table of
-/// names. Each look-up costs the same however many names and places there are.
+/// names. Each look-up costs the same however many names and places there are, unless they were
+/// chosen by who knows the key of their hashes.
 pub struct Decls<A: Allocator = Global> {
     version: Version,
     names: Names<A>,
@@ -83,7 +84,7 @@ impl<A: Allocator> Decls<A> {
         ensures declarations { result.declarations ≡ [] }
         ensures places { result.places ≡ [] }
     {
-        Decls::of_version(Version::One, alloc)
+        Decls::keyed(alloc, Version::One, 0)
     }
 
     /// No declaration and no place, for a text of version 2. Takes no memory.
@@ -94,11 +95,14 @@ impl<A: Allocator> Decls<A> {
         ensures declarations { result.declarations ≡ [] }
         ensures places { result.places ≡ [] }
     {
-        Decls::of_version(Version::Two, alloc)
+        Decls::keyed(alloc, Version::Two, 0)
     }
 
-    // No declaration and no place.
-    fn of_version(version: Version, alloc: A) -> Decls<A>
+    /// No declaration and no place, for a text of this version. Takes no memory.
+    ///
+    /// The key changes no answer: by it names and places are hashed. Where somebody else writes the text, it should be secret,
+    /// since who knows it can choose names of which each look-up costs as much as there are names. `new` has the key 0.
+    pub fn keyed(alloc: A, version: Version, key: u64) -> Decls<A>
     where
         A: Copy,
         ensures version { result.version ≡ version }
@@ -107,9 +111,9 @@ impl<A: Allocator> Decls<A> {
     {
         Decls {
             version,
-            names: Names::new(alloc),
+            names: Names::new(alloc, key),
             indexes: Indexes::new(alloc),
-            places: Places::new(alloc),
+            places: Places::new(alloc, key),
         }
     }
 

@@ -1,10 +1,10 @@
 //! Which events fit their declarations.
 ghost use Rattle.std.specs.{Prelude.{◌≡◌, length, IsTrue}, List.list_all};
-ghost use Rattle.race_records.specs.Parts.{part_fits, named_is_in_range, chan_is_in_range};
+ghost use Rattle.race_records.specs.Operands.{operand_fits, named_is_in_range, chan_is_in_range};
 ghost use Rattle.race_records.specs.Declarations as spec;
 ghost use Rattle.race_records.specs.Events as events;
 
-use crate::{Cases, Cause, Decls, Event, Kind, Named, Op, Part, failed_at, rwmutex_of, says};
+use crate::{Cases, Cause, Decls, Event, Kind, Named, Op, Operand, failed_at, rwmutex_of, says};
 use std::alloc::Allocator;
 
 impl<A: Allocator> Decls<A> {
@@ -23,11 +23,11 @@ impl<A: Allocator> Decls<A> {
     pub(crate) fn is_in_range(&self, event: &Event) -> bool
         ensures { result ≡ events.is_in_range self.now event.now }
     {
-        let (verb, parts) = says(&event.op);
+        let (keyword, operands) = says(&event.op);
         event.who < self.count(Kind::Goroutine)
-            && self.parts_fit(parts.as_slice())
+            && self.operands_fit(operands.as_slice())
             && event.place < self.place_count()
-            && self.second_place_fits(verb.has_two_places(), event.place2)
+            && self.second_place_fits(keyword.has_two_places(), event.place2)
     }
 
     // Whether the operation is one of this version, and its lock is an rwmutex where it wants one.
@@ -35,8 +35,8 @@ impl<A: Allocator> Decls<A> {
         requires { IsTrue (events.op_fits self.now.declarations op.now) }
         ensures { result ≡ events.is_right_kind self.now op.now }
     {
-        let (verb, _parts) = says(op);
-        self.version().has(verb) && self.lock_fits(op)
+        let (keyword, _operands) = says(op);
+        self.version().has(keyword) && self.lock_fits(op)
     }
 
     // Whether the lock is an rwmutex, where the operation wants one.
@@ -60,20 +60,20 @@ impl<A: Allocator> Decls<A> {
         }
     }
 
-    fn parts_fit(&self, parts: &[Part]) -> bool
-        ensures { result ≡ list_all (part_fits self.now.declarations) parts.now }
+    fn operands_fit(&self, operands: &[Operand]) -> bool
+        ensures { result ≡ list_all (operand_fits self.now.declarations) operands.now }
     {
-        parts.iter().all(|part| self.part_fits(part))
+        operands.iter().all(|operand| self.operand_fits(operand))
     }
 
-    fn part_fits(&self, part: &Part) -> bool
-        ensures { result ≡ part_fits self.now.declarations part.now }
+    fn operand_fits(&self, operand: &Operand) -> bool
+        ensures { result ≡ operand_fits self.now.declarations operand.now }
     {
-        match part {
-            Part::Object(named) => self.is_declared(*named),
-            Part::Value(_) => true,
-            Part::Cases(cases) => self.cases_fit(cases),
-            Part::Cause(cause) => self.cause_fits(*cause),
+        match operand {
+            Operand::Object(named) => self.is_declared(*named),
+            Operand::Value(_) => true,
+            Operand::Cases(cases) => self.cases_fit(cases),
+            Operand::Cause(cause) => self.cause_fits(*cause),
         }
     }
 
@@ -85,7 +85,7 @@ impl<A: Allocator> Decls<A> {
 
     // Whether the object at which the run failed is nil or declared.
     fn cause_fits(&self, cause: Cause) -> bool
-        ensures { result ≡ part_fits self.now.declarations (Part.Cause cause) }
+        ensures { result ≡ operand_fits self.now.declarations (Operand.Cause cause) }
     {
         match failed_at(cause) {
             None => true,
@@ -95,7 +95,7 @@ impl<A: Allocator> Decls<A> {
 
     // Whether the channel of each case is nil or declared.
     fn cases_fit(&self, cases: &Cases) -> bool
-        ensures { result ≡ part_fits self.now.declarations (Part.Cases cases.now) }
+        ensures { result ≡ operand_fits self.now.declarations (Operand.Cases cases.now) }
     {
         for k in 0..cases.len() {
             if !self.chan_fits(cases.get(k).chan) {

@@ -4,10 +4,10 @@ ghost use Rattle.std.specs.{Prelude.{option_map, IsTrue, IfOk, OnOk, OnErr, IsNo
 ghost use Rattle.race_records.specs.{Rows.declarations_of, Tables.{Row, row, slot_named}};
 
 use crate::Object;
+use crate::keyed::KeyedHasher;
 use crate::shorts::Shorts;
 use indexmap::IndexMap;
 use std::alloc::{AllocError, Allocator};
-use std::hash::{BuildHasherDefault, FoldHasher};
 use std::marker::Model;
 
 fn is_same(a: Object, b: Object) -> bool
@@ -26,7 +26,7 @@ pub struct Slot {
 /// The declared names, each found by its bytes or by its index.
 #[derive(Drop)]
 pub struct Names<A: Allocator> {
-    slots: IndexMap<String<A>, Slot, BuildHasherDefault<FoldHasher>, A>,
+    slots: IndexMap<String<A>, Slot, KeyedHasher, A>,
     // Short names are looked for here first: one look at memory, where the map has four.
     shorts: Shorts<A>,
 }
@@ -43,13 +43,14 @@ impl<A: Allocator> Model for Names<A> {
 }
 
 impl<A: Allocator> Names<A> {
-    pub(crate) fn new(alloc: A) -> Names<A>
+    // No names. The key is of the hashes.
+    pub(crate) fn new(alloc: A, key: u64) -> Names<A>
     where
         A: Copy,
         ensures { result ≡ [] }
     {
         Names {
-            slots: IndexMap::new(alloc),
+            slots: IndexMap::with_hasher(alloc, KeyedHasher::new(key)),
             shorts: Shorts::new(alloc),
         }
     }

@@ -2,15 +2,15 @@
 ghost use Rattle.std.specs.Prelude.{◌≡◌, ◌<◌, [], ◌∷◌, ◌++◌, length, Some, slice_get, position, IfOk, OnOk, OnErr};
 ghost use Rattle.std.specs.{Prelude.IsNone, Str.bytes_eq};
 
+use crate::keyed::KeyedHasher;
 use indexmap::IndexSet;
 use std::alloc::{AllocError, Allocator};
-use std::hash::{BuildHasherDefault, FoldHasher};
 use std::marker::Model;
 
 /// Distinct texts, each found by its bytes or by its index.
 #[derive(Drop)]
 pub struct Places<A: Allocator> {
-    texts: IndexSet<String<A>, BuildHasherDefault<FoldHasher>, A>,
+    texts: IndexSet<String<A>, KeyedHasher, A>,
 }
 
 impl<A: Allocator> Model for Places<A> {
@@ -22,13 +22,14 @@ impl<A: Allocator> Model for Places<A> {
 }
 
 impl<A: Allocator> Places<A> {
-    pub(crate) fn new(alloc: A) -> Places<A>
+    // No texts. The key is of the hashes.
+    pub(crate) fn new(alloc: A, key: u64) -> Places<A>
     where
         A: Copy,
         ensures { result ≡ [] }
     {
         Places {
-            texts: IndexSet::new(alloc),
+            texts: IndexSet::with_hasher(alloc, KeyedHasher::new(key)),
         }
     }
 

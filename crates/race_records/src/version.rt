@@ -1,9 +1,9 @@
 //! The versions of texts.
 ghost use Rattle.std.specs.Prelude.{◌≡◌};
-ghost use Rattle.race_records.specs.Parts as spec;
+ghost use Rattle.race_records.specs.Operands as spec;
 ghost use Rattle.race_records.specs.Equality.{same_version};
 
-use crate::Verb;
+use crate::OpKeyword;
 
 /// The version of a trace's or a program's text, which says what operations it may have.
 #[derive(Clone, Copy, Debug, PartialEq, Eq)]
@@ -16,10 +16,10 @@ pub enum Version {
 
 impl Version {
     /// Whether the version has the word.
-    pub fn has(self, verb: Verb) -> bool
-        ensures { result ≡ spec.has_verb self verb }
+    pub fn has(self, keyword: OpKeyword) -> bool
+        ensures { result ≡ spec.has_op_keyword self keyword }
     {
-        match (self, verb.since()) {
+        match (self, keyword.since()) {
             (Version::One, Version::Two) => false,
             (Version::One, Version::One) => true,
             (Version::Two, _) => true,

@@ -6,10 +6,10 @@ use Rattle.race_records.specs.declared.{event.Event.Event, kind.Kind.Kind}
 use Rattle.race_records.specs.{Declarations.{DeclsState, count_of, counts_of}, Events.{TraceState, IsTrace, fits}}
 use Rattle.race_legal.proofs.RangeLemmas.{range_from_fits}
 use Rattle.race_model.{specs.{Events.partner, Race.IsReportedRace}, proofs.Indexes.take_at_old}
-use Rattle.race_edges.specs.{declared.listing.Edge.Edge, Edges.{IsEdge, AreEdges}}
+use Rattle.race_edges.specs.{declared.edge_list.Edge.Edge, Edges.{IsEdge, AreEdges}}
 use Rattle.race_edges.proofs.SynchronizedLemmas.{inside_pair}
 use Rattle.race_verdict.proofs.RangeLemmas.{range_in_trace, partner_in_range, race_declared}
-use Rattle.race_verdict.specs.declared.{notes.{Noted.Noted, NotedVerdict.NotedVerdict}, verdict.Verdict.Verdict}
+use Rattle.race_verdict.specs.declared.{report.{ReportedAccess.ReportedAccess, Report.Report}, verdict.Verdict.Verdict}
 use Rattle.race_verdict.specs.{Notes.{IsNoteOf, IsNotedRaceOf, IsNotedOf, race_noted, verdict_noted}, Races.race_of}
 use Rattle.race_verdict.specs.{Traces.{capacities, HasVerdict}, Verdicts.verdict_of}
 use Rattle.race_report.specs.Printable.{IsOf, RacesAreOf, IsNoteNamed, AreNamed, IsEdgeOf}
@@ -81,7 +81,7 @@ place_from_fits decls e fit = grind (arith, nat_tests)
 
 -- what is noted of events of the trace is declared
 module _ (trace : TraceState) (is_trace : IsTrace trace) where
-  note_is_named : (n : Noted) → IsNoteOf trace.events n → IsNoteNamed trace.decls n
+  note_is_named : (n : ReportedAccess) → IsNoteOf trace.events n → IsNoteNamed trace.decls n
   note_is_named n is =
       let fit : IsTrue (fits trace.decls is.event) = subst (λ (e : Event). IsTrue (fits trace.decls e))
       (get_or_from_slice_get trace.events n.at is.event is.event is.stands)
@@ -91,11 +91,11 @@ module _ (trace : TraceState) (is_trace : IsTrace trace) where
         place = subst (λ p. p < length trace.decls.places) is.place (place_from_fits trace.decls is.event fit);
       }
 
-  pub notes_are_named : {A : Type 0} (verdict : NotedVerdict A) → HasVerdict trace (verdict_noted verdict) → IsNotedOf trace.events verdict
+  pub notes_are_named : {A : Type 0} (verdict : Report A) → HasVerdict trace (verdict_noted verdict) → IsNotedOf trace.events verdict
       → AreNamed trace.decls verdict
-  notes_are_named (NotedVerdict.Illegal illegal) right noted = tt
-  notes_are_named (NotedVerdict.Clean events accesses) right noted = tt
-  notes_are_named (NotedVerdict.Races races) right noted = λ i d within.
+  notes_are_named (Report.Illegal illegal) right noted = tt
+  notes_are_named (Report.Clean events accesses) right noted = tt
+  notes_are_named (Report.Races races) right noted = λ i d within.
       let both : IsNotedRaceOf trace.events (get_or races.items i d) = noted i d within in
       let at = slice_get-map race_noted races.items i ∙ ap (option_map race_noted) (slice_get-get_or races.items i d within) in
       record {

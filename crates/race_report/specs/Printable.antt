@@ -2,9 +2,9 @@
 use Rattle.std.specs.Prelude.{◌<◌, All, length, ⊤}
 use Rattle.race_records.specs.{declared.kind.Kind.Kind, Declarations.{DeclsState, count_of}, Events.TraceState}
 use Rattle.race_model.specs.Verdict.{Race}
-use Rattle.race_verdict.specs.declared.notes.{Noted.Noted, NotedRace.NotedRace, NotedVerdict.NotedVerdict}
+use Rattle.race_verdict.specs.declared.report.{ReportedAccess.ReportedAccess, ReportedRace.ReportedRace, Report.Report}
 use Rattle.race_verdict.specs.{declared.verdict.Verdict.Verdict, Races.race_of}
-use Rattle.race_edges.specs.declared.listing.Edge.{Edge}
+use Rattle.race_edges.specs.declared.edge_list.Edge.{Edge}
 
 -- the numbers of the race are the trace's
 pub record IsOf (trace : TraceState) (race : Race) : Type 0 where
@@ -18,19 +18,19 @@ RacesAreOf trace (Verdict.Races races) = All (λ r. IsOf trace (race_of r)) race
 RacesAreOf trace _ = ⊤
 
 -- the goroutine and the place of the access are declared
-pub record IsNoteNamed (decls : DeclsState) (n : Noted) : Type 0 where
+pub record IsNoteNamed (decls : DeclsState) (n : ReportedAccess) : Type 0 where
   pub who : n.who < count_of Kind.Goroutine decls.declarations
   pub place : n.place < length decls.places
 
 -- so are those of both accesses of the race, and its variable
-pub record IsRaceNamed (decls : DeclsState) (r : NotedRace) : Type 0 where
+pub record IsRaceNamed (decls : DeclsState) (r : ReportedRace) : Type 0 where
   pub var : r.var < count_of Kind.Var decls.declarations
   pub first : IsNoteNamed decls r.first
   pub second : IsNoteNamed decls r.second
 
 -- and those of each race of the verdict
-abbrev pub AreNamed : {A : Type 0} → DeclsState → NotedVerdict A → Type 0
-AreNamed decls (NotedVerdict.Races races) = All (IsRaceNamed decls) races.items
+abbrev pub AreNamed : {A : Type 0} → DeclsState → Report A → Type 0
+AreNamed decls (Report.Races races) = All (IsRaceNamed decls) races.items
 AreNamed decls _ = ⊤
 
 -- the goroutines of the edge are the trace's

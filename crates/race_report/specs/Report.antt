@@ -4,7 +4,7 @@ use Rattle.std.specs.List.{concat, flat_map}
 use Rattle.race_records.specs.{declared.event.Op.{Op, TheVariants.{Read, Write}}, Events.TraceState}
 use Rattle.race_model.specs.{Events.{count, is_access}, Verdict.{Race, Verdict, Illegal, Clean, Races}}
 use Rattle.race_text.specs.{declared.cause.TextFault.TextFault, Text.{goroutine_name, var_name, place_text}}
-use Rattle.race_edges.specs.declared.listing.Edge.{Edge}
+use Rattle.race_edges.specs.declared.edge_list.Edge.{Edge}
 use Rattle.race_report.specs.{Causes.cause_text, Rules.rule_text}
 
 -- the end of a line

@@ -15,5 +15,7 @@ pub use edge_lines::write_edges;
 pub use fault::write_text_fault;
 pub use noted::write_noted_report;
 pub use race_records::WriteFault;
-pub use verdict::{access_word, print_race, print_race_count, print_report, write_report};
+pub use verdict::{
+    access_word, print_illegal, print_race, print_race_count, print_report, write_report,
+};
 pub use witness_lines::write_witness;

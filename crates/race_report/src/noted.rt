@@ -11,7 +11,7 @@ use crate::verdict::{
     AccessWords, access_name, print_clean, print_illegal, print_race_count, print_race_words,
 };
 use race_records::{Decls, Named, Page, Sink, WriteFault};
-use race_verdict::{Noted, NotedRace, NotedVerdict};
+use race_verdict::{Report, ReportedAccess, ReportedRace};
 use std::alloc::Allocator;
 use std::io::Write;
 
@@ -23,7 +23,7 @@ use std::io::Write;
 /// `sent` bytes are out.
 pub fn write_noted_report<W: Write, A: Allocator, B: Allocator>(
     decls: &Decls<A>,
-    verdict: &NotedVerdict<B>,
+    verdict: &Report<B>,
     sink: &mut Sink<W>,
 ) -> Result<(), WriteFault>
     requires { AreNamed decls.now verdict.now }
@@ -43,15 +43,15 @@ fn print_noted_report<W: Write, A: Allocator, B: Allocator>(
     page: &mut Page,
     sink: &mut Sink<W>,
     decls: &Decls<A>,
-    verdict: &NotedVerdict<B>,
+    verdict: &Report<B>,
 ) -> Result<(), WriteFault>
     requires { AreNamed decls.now verdict.now }
     ensures { Printing W.contents result sink.old sink.new page.old page.new (report_noted decls.now verdict.now) }
 {
     match verdict {
-        NotedVerdict::Illegal(illegal) => print_illegal(page, sink, *illegal),
-        NotedVerdict::Clean { events, accesses } => print_clean(page, sink, *events, *accesses),
-        NotedVerdict::Races(races) => print_noted_races(page, sink, decls, races.as_slice()),
+        Report::Illegal(illegal) => print_illegal(page, sink, *illegal),
+        Report::Clean { events, accesses } => print_clean(page, sink, *events, *accesses),
+        Report::Races(races) => print_noted_races(page, sink, decls, races.as_slice()),
     }
 }
 
@@ -60,7 +60,7 @@ fn print_noted_races<W: Write, A: Allocator>(
     page: &mut Page,
     sink: &mut Sink<W>,
     decls: &Decls<A>,
-    races: &[NotedRace],
+    races: &[ReportedRace],
 ) -> Result<(), WriteFault>
     requires { All (IsRaceNamed decls.now) races.now }
     ensures { Printing W.contents result sink.old sink.new page.old page.new (races_noted_text decls.now races.now) }
@@ -78,7 +78,7 @@ fn print_noted_race<W: Write, A: Allocator>(
     page: &mut Page,
     sink: &mut Sink<W>,
     decls: &Decls<A>,
-    race: &NotedRace,
+    race: &ReportedRace,
 ) -> Result<(), WriteFault>
     requires { IsRaceNamed decls.now race.now }
     ensures { Printing W.contents result sink.old sink.new page.old page.new (race_noted_line decls.now race.now) }
@@ -90,7 +90,7 @@ fn print_noted_race<W: Write, A: Allocator>(
 }
 
 // The words for an access.
-fn noted_words<'a, A: Allocator>(decls: &'a Decls<A>, noted: &Noted) -> AccessWords<'a>
+fn noted_words<'a, A: Allocator>(decls: &'a Decls<A>, noted: &ReportedAccess) -> AccessWords<'a>
     requires { IsNoteNamed decls.now noted.now }
     ensures { spec.access_told result.what.now result.who.now result.place.now result.at ≡ access_noted decls.now noted.now }
 {

@@ -102,9 +102,10 @@ pub(crate) fn print_clean<W: Write>(
     page.put_all(sink, &parts)
 }
 
-/// Prints the first event that breaks a rule, with its rule.
+/// Prints on a page the first event that breaks a rule, with its rule, behind whatever was printed on it before. Takes no
+/// memory.
 #[tactic(auto, unfolding(crate::specs::Report::illegal_line))]
-pub(crate) fn print_illegal<W: Write>(
+pub fn print_illegal<W: Write>(
     page: &mut Page,
     sink: &mut Sink<W>,
     illegal: Illegal,

@@ -14,8 +14,8 @@ use Rattle.race_model.proofs.Indexes.{at_below}
 use Rattle.race_requests.specs.declared.{choice.Choice.Choice, request.{Answer.Answer, Ask.Ask, Offer.Offer}}
 use Rattle.race_requests.specs.{declared.request.Waiter.Waiter, Offers.{chan_of, case_of}, Table.{offers_of, done_by}}
 use Rattle.race_requests.specs.{Table.{told_sender, told_receiver, chosen, told_plain, IsRow}, Choices.choice}
-use Rattle.race_requests.specs.Choices.{lone_op, offer_at, op_of, meet_op, event_of, is_legal_next, is_choice, ways}
-use Rattle.race_requests.specs.Choices.{below, with_partner, of_way, tuples, ways_at, tuples_of, choices}
+use Rattle.race_requests.specs.Choices.{lone_op, offer_at, op_of, meet_op, event_of, is_legal_next, is_choice, branches}
+use Rattle.race_requests.specs.Choices.{below, with_partner, of_branch, tuples, branches_at, tuples_of, choices}
 use Rattle.race_requests.proofs.RowLemmas.{told_same, told_both, told_same_two, at_offer, at_default}
 
 pub some_is : {X : Type 0} {x y : X} → Some x ≡ Some y → x ≡ y
@@ -69,15 +69,15 @@ each_of : {X : Type 0} (xs : List X) → Each (λ _. Unit {0}) xs
 each_of [] = tt
 each_of (x ∷ xs) = (tt, each_of xs)
 
--- each tuple has one of the ways
-ways_of_tuples : (n : ℕ) (ways : ℕ → ℕ) → Each (λ t. t.offer < ways t.place) (tuples n ways)
-ways_of_tuples n ways =
-    each_flat_map (λ _. Unit {0}) (λ t. t.offer < ways t.place) (λ w. flat_map (of_way n ways w) (below (ways w))) (below n) (each_of (below n))
-    (λ w _. each_flat_map (λ k. k < ways w) (λ t. t.offer < ways t.place) (of_way n ways w) (below (ways w)) (each_below (ways w) 0 (ways w) (omega arith))
+-- each tuple has one of the branches
+branches_of_tuples : (n : ℕ) (branches : ℕ → ℕ) → Each (λ t. t.offer < branches t.place) (tuples n branches)
+branches_of_tuples n branches =
+    each_flat_map (λ _. Unit {0}) (λ t. t.offer < branches t.place) (λ w. flat_map (of_branch n branches w) (below (branches w))) (below n) (each_of (below n))
+    (λ w _. each_flat_map (λ k. k < branches w) (λ t. t.offer < branches t.place) (of_branch n branches w) (below (branches w)) (each_below (branches w) 0 (branches w) (omega arith))
     (λ k less. (
       less,
-      each_flat_map (λ _. Unit {0}) (λ t. t.offer < ways t.place) (with_partner ways w k) (below n) (each_of (below n))
-          (λ r _. each_map (λ t. t.offer < ways t.place) (λ q. choice w k (r + 1) (q + 1)) (below (ways r)) (λ _. less)),
+      each_flat_map (λ _. Unit {0}) (λ t. t.offer < branches t.place) (with_partner branches w k) (below n) (each_of (below n))
+          (λ r _. each_map (λ t. t.offer < branches t.place) (λ q. choice w k (r + 1) (q + 1)) (below (branches r)) (λ _. less)),
     )))
 
 -- some answer stands in the row
@@ -122,9 +122,9 @@ select_told past g k offers has_default false op test is = by (slice_get offers 
     by None there is = absurd (none-some op is)
     by (Some o) there is = chosen_told offers has_default k g o op there (offered_alone past g o op is)
 
--- of two ways the one that isn't the first
-second_way : (k : ℕ) → (k == 0) ≡ false → k < 2 → k ≡ 1
-second_way k later less = grind (arith, nat_tests)
+-- of two branches the one that isn't the first
+second_branch : (k : ℕ) → (k == 0) ≡ false → k < 2 → k ≡ 1
+second_branch k later less = grind (arith, nat_tests)
 
 module _ (past : List Event) (g k : ℕ) where
   tried_told : (l : ℕ) (first : Bool) → (k == 0) ≡ first → k < 2 → HasTold (Ask.TryLock l) k g (cond first (TryLock l) (TryFail l))
@@ -133,7 +133,7 @@ module _ (past : List Event) (g k : ℕ) where
   tried_told l false first less =
       record {
         told = Some (Answer.Tried false);
-        row = told_both (k == 1) (l == l) (Some (Answer.Tried false)) (ap (λ n. n == 1) (second_way k first less)) (eq-eqb l l refl);
+        row = told_both (k == 1) (l == l) (Some (Answer.Tried false)) (ap (λ n. n == 1) (second_branch k first less)) (eq-eqb l l refl);
       }
 
   rtried_told : (l : ℕ) (first : Bool) → (k == 0) ≡ first → k < 2 → HasTold (Ask.TryRLock l) k g (cond first (TryRLock l) (TryFail l))
@@ -142,10 +142,10 @@ module _ (past : List Event) (g k : ℕ) where
   rtried_told l false first less =
       record {
         told = Some (Answer.Tried false);
-        row = told_both (k == 1) (l == l) (Some (Answer.Tried false)) (ap (λ n. n == 1) (second_way k first less)) (eq-eqb l l refl);
+        row = told_both (k == 1) (l == l) (Some (Answer.Tried false)) (ap (λ n. n == 1) (second_branch k first less)) (eq-eqb l l refl);
       }
 
--- what a request without another way does alone has a row
+-- what a request without another branch does alone has a row
 module _ (past : List Event) (g : ℕ) where
   sent_told : (c v : ℕ) (closed : Bool) → HasTold (Ask.Send (Some c) v) 0 g (cond closed (Fault (SendClosed c)) (Send c v))
   sent_told c v true = record { told = None; row = told_same c None }
@@ -193,17 +193,17 @@ module _ (past : List Event) (g : ℕ) where
   first_told (Ask.Do o) = did_told o (is_begun o past)
   first_told (Ask.EndDo o) = record { told = Some Answer.Unit; row = told_same o (Some Answer.Unit) }
 
-  way_told : (ask : Ask) (k : ℕ) → k < ways ask → IfSome (op_of past ask k) (HasTold ask k g)
-  way_told ask zero less = first_told ask
-  way_told (Ask.Select offers has_default) k less =
+  branch_told : (ask : Ask) (k : ℕ) → k < branches ask → IfSome (op_of past ask k) (HasTold ask k g)
+  branch_told ask zero less = first_told ask
+  branch_told (Ask.Select offers has_default) k less =
       if_some (op_of past (Ask.Select offers has_default) k) (λ op. select_told past g k offers has_default (has_default && (k == length offers)) op refl)
-  way_told (Ask.TryLock l) k less = tried_told past g k l (k == 0) refl less
-  way_told (Ask.TryRLock l) k less = rtried_told past g k l (k == 0) refl less
-  way_told _ (suc k) less = absurd (omega arith)
+  branch_told (Ask.TryLock l) k less = tried_told past g k l (k == 0) refl less
+  branch_told (Ask.TryRLock l) k less = rtried_told past g k l (k == 0) refl less
+  branch_told _ (suc k) less = absurd (omega arith)
 
   -- what a request does alone has a row
-  pub lone_told : (k : ℕ) (ask : Ask) (op : Op) → k < ways ask → op_of past ask k ≡ Some op → HasTold ask k g op
-  lone_told k ask op less is = subst (λ o. IfSome o (HasTold ask k g)) is (way_told ask k less)
+  pub lone_told : (k : ℕ) (ask : Ask) (op : Op) → k < branches ask → op_of past ask k ≡ Some op → HasTold ask k g op
+  lone_told k ask op less is = subst (λ o. IfSome o (HasTold ask k g)) is (branch_told ask k less)
 
 -- the operation of two offers, where there are both
 abbrev pub meets_by : ℕ → Option Offer → Option Offer → Option Op
@@ -273,12 +273,12 @@ pub record IsPossible (caps : ℕ → ℕ) (past : List Event) (ws : List Waiter
   pub e : Event
   pub makes : event_of past ws t ≡ Some e
   pub legal : broken caps past e ≡ None
-  pub way : t.offer < ways_at ws t.place
+  pub branch : t.offer < branches_at ws t.place
 
 possible_by : (caps : ℕ → ℕ) (past : List Event) (ws : List Waiter) (t : Choice) (made : Option Event) → event_of past ws t ≡ made
-    → is_legal_next caps past made ≡ true → t.offer < ways_at ws t.place → IsPossible caps past ws t
-possible_by caps past ws t None is legal way = absurd cc
-possible_by caps past ws t (Some e) is legal way = record { e = e; makes = is; legal = none_is (broken caps past e) legal; way = way }
+    → is_legal_next caps past made ≡ true → t.offer < branches_at ws t.place → IsPossible caps past ws t
+possible_by caps past ws t None is legal branch = absurd cc
+possible_by caps past ws t (Some e) is legal branch = record { e = e; makes = is; legal = none_is (broken caps past e) legal; branch = branch }
   where
     none_is : (o : Option ℕ) → is_none o ≡ true → o ≡ None
     none_is None is = refl
@@ -290,8 +290,8 @@ pub listed_is_possible : (caps : ℕ → ℕ) (past : List Event) (ws : List Wai
 listed_is_possible caps past ws i t is =
     possible_by caps past ws t (event_of past ws t) refl
     (first _ _ (all_at (λ t. is_choice caps past ws t ≡ true) (choices caps past ws) i t (filter_passes (is_choice caps past ws) (tuples_of ws)) is))
-    (each_at (λ t. t.offer < ways_at ws t.place) (choices caps past ws) i t
-    (each_filter (λ t. t.offer < ways_at ws t.place) (is_choice caps past ws) (tuples_of ws) (ways_of_tuples (length ws) (ways_at ws))) is)
+    (each_at (λ t. t.offer < branches_at ws t.place) (choices caps past ws) i t
+    (each_filter (λ t. t.offer < branches_at ws t.place) (is_choice caps past ws) (tuples_of ws) (branches_of_tuples (length ws) (branches_at ws))) is)
   where
     first : (a b : Bool) → (a && b) ≡ true → a ≡ true
     first true b is = refl

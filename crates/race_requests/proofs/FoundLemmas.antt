@@ -5,7 +5,7 @@ use Rattle.std.proofs.{Common.length-append, lemmas.{Grind.flat_map-append, List
 use Rattle.std.specs.List.{range_with_len}
 use Rattle.race_model.proofs.Indexes.{append_at_old}
 use Rattle.race_requests.specs.declared.{choice.Choice.Choice, search.Found.{Found, TheVariants.{At, Left}}}
-use Rattle.race_requests.specs.{Choices.{below, choice, with_partner, of_way}, Search.IsFound}
+use Rattle.race_requests.specs.{Choices.{below, choice, with_partner, of_branch}, Search.IsFound}
 
 -- behind the first list an element stands by its number in the second one
 behind : {X : Type 0} (xs ys : List X) (k m : ℕ) → k ≡ length xs + m → slice_get (xs ++ ys) k ≡ slice_get ys m
@@ -94,8 +94,8 @@ none_of_all p f none (x ∷ xs) =
     filter-append p (f x) (flat_map f xs) ∙ (λ i. none x i ++ filter p (flat_map f xs)) ∙ none_of_all p f none xs
 
 -- nothing of a request passes that neither passes alone nor with another
-pub none_of_stuck : (p : Choice → Bool) (n : ℕ) (ways : ℕ → ℕ) (w : ℕ) → ((k : ℕ) → p (choice w k 0 0) ≡ false)
-    → ((k r q : ℕ) → p (choice w k (r + 1) (q + 1)) ≡ false) → (xs : List ℕ) → filter p (flat_map (of_way n ways w) xs) ≡ []
-none_of_stuck p n ways w alone meets = none_of_all p (of_way n ways w) (λ k.
-    ap (λ b. cond b (choice w k 0 0 ∷ filter p (flat_map (with_partner ways w k) (below n))) (filter p (flat_map (with_partner ways w k) (below n)))) (alone k)
-    ∙ none_of_all p (with_partner ways w k) (λ r. filter_none p (λ q. choice w k (r + 1) (q + 1)) (meets k r) (below (ways r))) (below n))
+pub none_of_stuck : (p : Choice → Bool) (n : ℕ) (branches : ℕ → ℕ) (w : ℕ) → ((k : ℕ) → p (choice w k 0 0) ≡ false)
+    → ((k r q : ℕ) → p (choice w k (r + 1) (q + 1)) ≡ false) → (xs : List ℕ) → filter p (flat_map (of_branch n branches w) xs) ≡ []
+none_of_stuck p n branches w alone meets = none_of_all p (of_branch n branches w) (λ k.
+    ap (λ b. cond b (choice w k 0 0 ∷ filter p (flat_map (with_partner branches w k) (below n))) (filter p (flat_map (with_partner branches w k) (below n)))) (alone k)
+    ∙ none_of_all p (with_partner branches w k) (λ r. filter_none p (λ q. choice w k (r + 1) (q + 1)) (meets k r) (below (branches r))) (below n))

@@ -35,10 +35,10 @@ sent_is : (c : ℕ) (x : Option Offer) → Some c ≡ sent_on x → IsSent c x
 sent_is c (Some (Offer.Send (Some d) v)) is = record { value = v; offer = ap (λ e. Some (Offer.Send e v)) (sym is) }
 sent_is c _ is = absurd (let no : Some c ≡ None = is in cc)
 
-module _ (caps : ℕ → ℕ) (past : List Event) (waiting : List Waiter) (w : Waiter) (place way p q c : ℕ) (there : slice_get waiting place ≡ Some w) where
+module _ (caps : ℕ → ℕ) (past : List Event) (waiting : List Waiter) (w : Waiter) (place branch p q c : ℕ) (there : slice_get waiting place ≡ Some w) where
   -- the event of the two
   abbrev made_with : ℕ → Option Waiter → Option Event
-  made_with k r = elim r [ None ↦ None | Some r ↦ meet_event w way r k ]
+  made_with k r = elim r [ None ↦ None | Some r ↦ meet_event w branch r k ]
 
   abbrev event_by : Option Op → Waiter → Option Event
   event_by op r = elim op [
@@ -46,7 +46,7 @@ module _ (caps : ℕ → ℕ) (past : List Event) (waiting : List Waiter) (w : W
     | Some op ↦ Some (record { who = w.who; op = op; place = w.asked.place; place2 = Some r.asked.place })
   ]
 
-  none_made : (v : ℕ) → slice_get (offers_of w.asked.ask) way ≡ Some (Offer.Send (Some c) v) → (r : Option Waiter)
+  none_made : (v : ℕ) → slice_get (offers_of w.asked.ask) branch ≡ Some (Offer.Send (Some c) v) → (r : Option Waiter)
       → elim r [ None ↦ false | Some r ↦ receives c r.asked.ask ] ≡ false → made_with q r ≡ None
   none_made v sends None none = refl
   none_made v sends (Some r) none =
@@ -55,22 +55,22 @@ module _ (caps : ℕ → ℕ) (past : List Event) (waiting : List Waiter) (w : W
       ∙ no_meet r.who c v (slice_get (offers_of r.asked.ask) q) (λ o. none_at (receives_from c) (offers_of r.asked.ask) q o none))
 
   -- who doesn't receive from the channel is passed over
-  pub passed_over : Some c ≡ sent_on (slice_get (offers_of w.asked.ask) way) → receives_at waiting c p ≡ false
-      → is_possible caps past waiting (choice place way (p + 1) (q + 1)) ≡ false
+  pub passed_over : Some c ≡ sent_on (slice_get (offers_of w.asked.ask) branch) → receives_at waiting c p ≡ false
+      → is_possible caps past waiting (choice place branch (p + 1) (q + 1)) ≡ false
   passed_over sends none =
-      let sent = sent_is c (slice_get (offers_of w.asked.ask) way) sends in
+      let sent = sent_is c (slice_get (offers_of w.asked.ask) branch) sends in
       let some : ((p + 1) == 0) ≡ false = grind (arith, nat_tests) in
       let back : p + 1 - 1 ≡ p = omega arith in
       let back_too : q + 1 - 1 ≡ q = omega arith in
       ap (is_legal_next caps past)
       (ap (λ (o : Option Waiter). elim o [
         | None ↦ None
-        | Some v ↦ cond ((p + 1) == 0) (lone_event past v way) (elim (slice_get waiting (p + 1 - 1)) [
+        | Some v ↦ cond ((p + 1) == 0) (lone_event past v branch) (elim (slice_get waiting (p + 1 - 1)) [
           | None ↦ None
-          | Some r ↦ meet_event v way r (q + 1 - 1)
+          | Some r ↦ meet_event v branch r (q + 1 - 1)
         ])
       ]) there
-      ∙ (λ i. cond (some i) (lone_event past w way) (made_with (back_too i) (slice_get waiting (back i))))
+      ∙ (λ i. cond (some i) (lone_event past w branch) (made_with (back_too i) (slice_get waiting (back i))))
       ∙ none_made sent.value sent.offer (slice_get waiting p) none)
 
 -- Whether one of those that pass the one test passes the other.

@@ -5,11 +5,11 @@ use Rattle.std.proofs.Common.{refl, sym, ap, ◌∙◌, arith}
 use Rattle.std.proofs.lemmas.{Bool.{and_parts, Decides.nat_tests}, Option.none-some}
 use Rattle.std.specs.List.{list_all}
 use Rattle.race_records.specs.declared.{cases.{TheConstants.MAX_CASES, Case.Case, Dir.Dir}, kind.Kind.Kind}
-use Rattle.race_records.specs.{Cases.{kept_chan, kept as kept_case}, Parts.{case_is_in_range, chan_is_in_range}}
+use Rattle.race_records.specs.{Cases.{kept_chan, kept as kept_case}, Operands.{case_is_in_range, chan_is_in_range}}
 use Rattle.race_records.proofs.CaseLemmas.{kept_whole, kept_range}
 use Rattle.race_legal.proofs.Searches.{each_passes}
 use Rattle.race_requests.specs.{declared.request.{Ask.Ask, Offer.Offer}, Offers.{case_of, chan_of, kept, offer_of}}
-use Rattle.race_requests.specs.{Offers.offers_with, Table.offers_of, Choices.ways}
+use Rattle.race_requests.specs.{Offers.offers_with, Table.offers_of, Choices.branches}
 use Rattle.race_requests.specs.Possible.{ask_is_in_range, offer_is_in_range}
 
 pub below_if : (n m : ℕ) → (m ≤ n → false ≡ true) → n < m
@@ -117,19 +117,19 @@ sent_in_range counts (Ask.Recv d) zero c v is there = absurd cc
 sent_in_range counts (Ask.Recv d) (suc k) c v is there = absurd (none-some _ there)
 sent_in_range counts _ k c v is there = absurd (none-some _ there)
 
--- an ask in range has at most sixteen offers, and one way more
-pub few_ways : (counts : Kind → ℕ) (ask : Ask) → ask_is_in_range counts ask ≡ true → ways ask ≤ 17
-few_ways counts (Ask.Select offers has_default) is = by has_default (few (and_parts (nat_le (length offers) MAX_CASES) _ is).0)
+-- an ask in range has at most sixteen offers, and one branch more
+pub few_branches : (counts : Kind → ℕ) (ask : Ask) → ask_is_in_range counts ask ≡ true → branches ask ≤ 17
+few_branches counts (Ask.Select offers has_default) is = by has_default (few (and_parts (nat_le (length offers) MAX_CASES) _ is).0)
   where
     few : nat_le (length offers) 16 ≡ true → length offers ≤ 16
     few test = grind (arith, nat_tests)
 
-    by : (d : Bool) → length offers ≤ 16 → ways (Ask.Select offers d) ≤ 17
+    by : (d : Bool) → length offers ≤ 16 → branches (Ask.Select offers d) ≤ 17
     by true le = omega (arith, le)
     by false le = omega (arith, le)
-few_ways counts _ is = omega arith
+few_branches counts _ is = omega arith
 
--- what a select does by a way that is no default's is what the offer does that stands there, if one does
+-- what a select does by a branch that is no default's is what the offer does that stands there, if one does
 pub by_offer_at : {X : Type 0} (offers : List Offer) (k : ℕ) (o : Option Offer) (by_default : Bool) (x : X) (f : Option Offer → X) → by_default ≡ false
     → slice_get offers k ≡ o → f o ≡ cond by_default x (f (slice_get offers k))
 by_offer_at offers k o by_default x f test there = ap f (sym there) ∙ ap (λ b. cond b x (f (slice_get offers k))) (sym test)

@@ -2,7 +2,7 @@
 use Rattle.std.proofs.Common.{◌≡◌, ℕ, ◌<◌, ◌&&◌, nat_lt, cond, Bool, true, false, Option, Some, None, IsTrue, refl, sym}
 use Rattle.std.proofs.{Common.{ap, subst, ◌∙◌, slice_get, arith}, lemmas.{Bool.Decides.nat_tests, Option.none-some}}
 use Rattle.race_records.specs.declared.{event.{Event.Event, Op.{Op, TheVariants.{Recv, RecvClosed}}}, kind.Kind.Kind}
-use Rattle.race_records.specs.Parts.{op_is_in_range}
+use Rattle.race_records.specs.Operands.{op_is_in_range}
 use Rattle.race_legal.specs.ReplayState.{IsInRange}
 use Rattle.race_requests.specs.{declared.request.Waiter.Waiter, Table.offers_of, Choices.meet_event}
 use Rattle.race_requests.{specs.Possible.ask_is_in_range, proofs.OfferLemmas.sent_in_range}

@@ -4,7 +4,7 @@ use Rattle.std.proofs.Common.{map, slice_get, Option, Some, None, option_map, in
 use Rattle.std.proofs.{Common.arith, lemmas.{Option.slice_get_within, Bool.{and_parts, Decides.{Decides-eqb}}}}
 use Rattle.race_records.specs.{Cases.{same_cases, same_cases-Decides}, declared.{cases.Case.Case, event.Op.Op}}
 use Rattle.race_records.specs.declared.event.Op.TheVariants.{Default, TryLock, TryRLock, TryFail}
-use Rattle.race_requests.specs.{declared.request.{Answer.Answer, Ask.Ask, Offer.Offer}, Offers.case_of, Choices.ways}
+use Rattle.race_requests.specs.{declared.request.{Answer.Answer, Ask.Ask, Offer.Offer}, Offers.case_of, Choices.branches}
 use Rattle.race_requests.specs.Table.{IsRow, told_if, told_trier, told_rtrier, told_by, chosen, told_plain, told_offer}
 use Rattle.race_requests.specs.Table.{told_selector}
 
@@ -32,7 +32,7 @@ wanted_two m n k l a told e =
     let q = and_parts (m == n) (k == l) p.0 in
     ((Decides-eqb m n).0 q.0, (Decides-eqb k l).0 q.1, p.1)
 
--- a row of an ask that is no select and no try is by way 0
+-- a row of an ask that is no select and no try is by branch 0
 pub at_first : (k : ℕ) (row : Option (Option Answer)) (told : Option Answer) → k ≡ 0 → row ≡ Some told → (if k == 0 then row else None) ≡ Some told
 at_first k row told zero is = ap (λ n. if n == 0 then row else None) zero ∙ is
 
@@ -127,25 +127,25 @@ module _ (offers : List Offer) (has_default : Bool) (k : ℕ) where
       by (Default cases) true is row = inr (by_default cases told row)
       by _ true is row = absurd cc
 
-try_way : (k way m l : ℕ) (a told : Option Answer) → told_if ((k == way) && (m == l)) a ≡ Some told → way < 2 → k < 2
-try_way k way m l a told row less = let is = wanted_two k way m l a told row in omega (arith, is.0, less)
+try_branch : (k branch m l : ℕ) (a told : Option Answer) → told_if ((k == branch) && (m == l)) a ≡ Some told → branch < 2 → k < 2
+try_branch k branch m l a told row less = let is = wanted_two k branch m l a told row in omega (arith, is.0, less)
 
-trier_way : (l k : ℕ) (op : Op) (told : Option Answer) → told_trier l k op ≡ Some told → k < 2
-trier_way l k (TryLock m) told row = try_way k 0 m l _ told row (omega arith)
-trier_way l k (TryFail m) told row = try_way k 1 m l _ told row (omega arith)
-trier_way l k _ told row = absurd cc
+trier_branch : (l k : ℕ) (op : Op) (told : Option Answer) → told_trier l k op ≡ Some told → k < 2
+trier_branch l k (TryLock m) told row = try_branch k 0 m l _ told row (omega arith)
+trier_branch l k (TryFail m) told row = try_branch k 1 m l _ told row (omega arith)
+trier_branch l k _ told row = absurd cc
 
-rtrier_way : (l k : ℕ) (op : Op) (told : Option Answer) → told_rtrier l k op ≡ Some told → k < 2
-rtrier_way l k (TryRLock m) told row = try_way k 0 m l _ told row (omega arith)
-rtrier_way l k (TryFail m) told row = try_way k 1 m l _ told row (omega arith)
-rtrier_way l k _ told row = absurd cc
+rtrier_branch : (l k : ℕ) (op : Op) (told : Option Answer) → told_rtrier l k op ≡ Some told → k < 2
+rtrier_branch l k (TryRLock m) told row = try_branch k 0 m l _ told row (omega arith)
+rtrier_branch l k (TryFail m) told row = try_branch k 1 m l _ told row (omega arith)
+rtrier_branch l k _ told row = absurd cc
 
--- a row is by one of the ways of its ask
-pub way_within : (ask : Ask) (k : ℕ) (op : Op) (told : Option Answer) → IsRow ask k op told → k < ways ask
-way_within (Ask.Select offers has_default) k op told row = elim (by_either offers has_default k op told row) [
+-- a row is by one of the branches of its ask
+pub branch_within : (ask : Ask) (k : ℕ) (op : Op) (told : Option Answer) → IsRow ask k op told → k < branches ask
+branch_within (Ask.Select offers has_default) k op told row = elim (by_either offers has_default k op told row) [
   | inl is ↦ let within = slice_get_within offers k is.offer is.there in omega (arith, within)
   | inr is ↦ let behind = is.behind in subst (λ b. k < length offers + cond b 1 0) (sym is.has) (omega (arith, behind))
 ]
-way_within (Ask.TryLock l) k op told row = trier_way l k op told row
-way_within (Ask.TryRLock l) k op told row = rtrier_way l k op told row
-way_within ask k op told row = let way = (by_first k (told_by ask op) told row).0 in omega (arith, way)
+branch_within (Ask.TryLock l) k op told row = trier_branch l k op told row
+branch_within (Ask.TryRLock l) k op told row = rtrier_branch l k op told row
+branch_within ask k op told row = let branch = (by_first k (told_by ask op) told row).0 in omega (arith, branch)

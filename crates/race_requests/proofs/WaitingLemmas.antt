@@ -6,8 +6,8 @@ use Rattle.race_records.specs.declared.{event.Event.Event, kind.Kind.Kind}
 use Rattle.race_records.specs.Declarations.{Declaration, count_of, counts_of}
 use Rattle.race_legal.specs.{ReplayState.{ReplayState, counts_in}, StandsFor.StandsFor}
 use Rattle.race_requests.specs.declared.request.{Offer.Offer, Waiter.Waiter}
-use Rattle.race_requests.specs.{Possible.{ask_is_in_range, offer_is_in_range}, Choices.{ways, ways_at}}
-use Rattle.race_requests.{specs.Waiting.{is_declared, sent_on}, proofs.{OfferLemmas.few_ways, ChoiceLemmas.all_at}}
+use Rattle.race_requests.specs.{Possible.{ask_is_in_range, offer_is_in_range}, Choices.{branches, branches_at}}
+use Rattle.race_requests.{specs.Waiting.{is_declared, sent_on}, proofs.{OfferLemmas.few_branches, ChoiceLemmas.all_at}}
 
 -- what is declared has a row in the replay's tables
 module _ (declarations : List Declaration) (k : ReplayState) (past : List Event) (stands : StandsFor declarations k past) where
@@ -31,14 +31,14 @@ pub sent_is_in_range : (chans : ℕ) (offer : Option Offer) (c : ℕ) → Some c
 sent_is_in_range chans (Some (Offer.Send (Some d) v)) c e is = subst (λ n. nat_lt n chans ≡ true) (let same : Some c ≡ Some d = e in cc) is
 sent_is_in_range chans _ c e is = absurd (let no : Some c ≡ None = e in cc)
 
--- each request of a list of declared ones has few ways
+-- each request of a list of declared ones has few branches
 pub few_at : (declarations : List Declaration) (waiting : List Waiter) (i : ℕ) → All (λ w. IsTrue (is_declared declarations w)) waiting
-    → ways_at waiting i ≤ 17
+    → branches_at waiting i ≤ 17
 few_at declarations waiting i all = by (slice_get waiting i) refl
   where
-    by : (w : Option Waiter) → slice_get waiting i ≡ w → elim w [ Some w ↦ ways w.asked.ask | None ↦ 0 ] ≤ 17
+    by : (w : Option Waiter) → slice_get waiting i ≡ w → elim w [ Some w ↦ branches w.asked.ask | None ↦ 0 ] ≤ 17
     by None there = omega arith
     by (Some w) there =
-        few_ways (counts_of declarations) w.asked.ask
+        few_branches (counts_of declarations) w.asked.ask
         (and_parts (nat_lt w.who (counts_of declarations Kind.Goroutine)) (ask_is_in_range (counts_of declarations) w.asked.ask)
         (all_at (λ w. IsTrue (is_declared declarations w)) waiting i w all there)).1

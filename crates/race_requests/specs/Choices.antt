@@ -11,7 +11,7 @@ use Rattle.race_model.specs.{State.{last_value, is_closed, front, is_held, is_re
 use Rattle.race_requests.specs.declared.{choice.Choice.Choice, request.{Ask.Ask, Offer.Offer, Waiter.Waiter}}
 use Rattle.race_requests.specs.{Offers.case_of, Table.offers_of}
 
--- request w of the list by its way k: p and q are 0, or one more than the partner's place and way
+-- request w of the list by its branch k: p and q are 0, or one more than the partner's place and branch
 abbrev pub choice : ℕ → ℕ → ℕ → ℕ → Choice
 choice w k p q = record { place = w; offer = k; partner = p; partner_offer = q }
 
@@ -26,7 +26,7 @@ lone_op past (Offer.Recv (Some c)) = Some (elim (front c past) [ Some v ↦ Recv
 abbrev pub offer_at : List Offer → ℕ → (Offer → Option Op) → Option Op
 offer_at offers k f = elim (slice_get offers k) [ Some o ↦ f o | None ↦ None ]
 
--- the operation of a request by its way k without a partner, after the events past; the default of a select that has one comes behind its offers
+-- the operation of a request by its branch k without a partner, after the events past; the default of a select that has one comes behind its offers
 abbrev pub op_of : List Event → Ask → ℕ → Option Op
 op_of past (Ask.Go h) k = Some (Go h)
 op_of past Ask.Exit k = Some Exit
@@ -42,25 +42,25 @@ op_of past (Ask.Lock l) k = Some (Lock l)
 op_of past (Ask.Unlock l) k = Some (cond (is_held l past) (Unlock l) (Fault (UnlockFree l)))
 op_of past (Ask.RLock l) k = Some (RLock l)
 op_of past (Ask.RUnlock l) k = Some (cond (is_read_held l past) (RUnlock l) (Fault (RUnlockFree l)))
--- a try takes the lock by way 0, and not by another
+-- a try takes the lock by branch 0, and not by another
 op_of past (Ask.TryLock l) k = Some (cond (k == 0) (TryLock l) (TryFail l))
 op_of past (Ask.TryRLock l) k = Some (cond (k == 0) (TryRLock l) (TryFail l))
 op_of past (Ask.Do o) k = Some (cond (is_begun o past) (OnceDone o) (OnceBegin o))
 op_of past (Ask.EndDo o) k = Some (OnceEnd o)
 
--- in how many ways a request can go on: a select by each offer, and by its default; a try with the lock and without
-abbrev pub ways : Ask → ℕ
-ways (Ask.Select offers has_default) = length offers + cond has_default 1 0
-ways (Ask.TryLock l) = 2
-ways (Ask.TryRLock l) = 2
-ways _ = 1
+-- how many branches a request has: a select by each offer, and by its default; a try with the lock and without
+abbrev pub branches : Ask → ℕ
+branches (Ask.Select offers has_default) = length offers + cond has_default 1 0
+branches (Ask.TryLock l) = 2
+branches (Ask.TryRLock l) = 2
+branches _ = 1
 
 -- the operation in which a sender's offer meets the offer of the receiver r
 abbrev pub meet_op : ℕ → Offer → Offer → Option Op
 meet_op r (Offer.Send (Some c) v) (Offer.Recv (Some d)) = cond (c == d) (Some (Meet r c v)) None
 meet_op r _ _ = None
 
--- the event of a request alone, by its way k
+-- the event of a request alone, by its branch k
 abbrev pub lone_event : List Event → Waiter → ℕ → Option Event
 lone_event past w k = elim (op_of past w.asked.ask k) [
   | None ↦ None
@@ -96,26 +96,26 @@ is_possible caps past waiting t = is_legal_next caps past (event_of past waiting
 abbrev pub below : ℕ → List ℕ
 below n = range_with_len 0 n
 
--- request w by its way k with each way of the partner r
+-- request w by its branch k with each branch of the partner r
 abbrev pub with_partner : (ℕ → ℕ) → ℕ → ℕ → ℕ → List Choice
-with_partner ways w k r = map (λ q. choice w k (r + 1) (q + 1)) (below (ways r))
+with_partner branches w k r = map (λ q. choice w k (r + 1) (q + 1)) (below (branches r))
 
--- request w by its way k, alone and then with each partner
-abbrev pub of_way : ℕ → (ℕ → ℕ) → ℕ → ℕ → List Choice
-of_way n ways w k = choice w k 0 0 ∷ flat_map (with_partner ways w k) (below n)
+-- request w by its branch k, alone and then with each partner
+abbrev pub of_branch : ℕ → (ℕ → ℕ) → ℕ → ℕ → List Choice
+of_branch n branches w k = choice w k 0 0 ∷ flat_map (with_partner branches w k) (below n)
 
--- all tuples of n requests with so many ways each, in lexicographic order
+-- all tuples of n requests with so many branches each, in lexicographic order
 abbrev pub tuples : ℕ → (ℕ → ℕ) → List Choice
-tuples n ways = flat_map (λ w. flat_map (of_way n ways w) (below (ways w))) (below n)
+tuples n branches = flat_map (λ w. flat_map (of_branch n branches w) (below (branches w))) (below n)
 
--- the ways of the request at that place
-abbrev pub ways_at : List Waiter → ℕ → ℕ
-ways_at waiting i = elim (slice_get waiting i) [ Some w ↦ ways w.asked.ask | None ↦ 0 ]
+-- the branches of the request at that place
+abbrev pub branches_at : List Waiter → ℕ → ℕ
+branches_at waiting i = elim (slice_get waiting i) [ Some w ↦ branches w.asked.ask | None ↦ 0 ]
 
 abbrev pub tuples_of : List Waiter → List Choice
-tuples_of waiting = tuples (length waiting) (ways_at waiting)
+tuples_of waiting = tuples (length waiting) (branches_at waiting)
 
--- way k of the ask is its default
+-- branch k of the ask is its default
 abbrev pub is_default_of : Ask → ℕ → Bool
 is_default_of (Ask.Select offers has_default) k = has_default && (k == length offers)
 is_default_of _ k = false

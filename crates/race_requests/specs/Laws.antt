@@ -10,8 +10,8 @@ use Rattle.race_model.specs.{State.{over, runs}, Examples.does}
 use Rattle.race_requests.specs.declared.request.{Answer.Answer, Ask.Ask, Offer.Offer, Waiter.Waiter}
 use Rattle.race_requests.specs.{Table.{done_by, IsRow}, Choices.{choice, choices, event_of, is_legal_next, lone_event}}
 use Rattle.race_requests.specs.{Choices.meet_event, Possible.{goes_on, meet_goes_on}, Rows.{capacities, waits, alone}}
-use Rattle.race_requests.specs.Rows.{HasWay, HasRow, Stays, sends_on, receives_from, three_started, one_meets_main}
-use Rattle.race_requests.specs.Rows.{sends_or_receives, receives_or_sends, HasBothWays, FailsAlone, is_sound_in}
+use Rattle.race_requests.specs.Rows.{HasBranch, HasRow, Stays, sends_on, receives_from, three_started, one_meets_main}
+use Rattle.race_requests.specs.Rows.{sends_or_receives, receives_or_sends, HasBothBranches, FailsAlone, is_sound_in}
 
 -- the table has a row for a start and one for an exit, and in a run without events each goes on by it
 pub record RowsOfGoroutines : Type 0 where
@@ -66,21 +66,21 @@ pub record RowsOfLocks : Type 0 where
 -- a try of a lock that can be taken has two choices, the lock and then the failure, and another has the failure alone; one that took the lock holds
 -- it, and one that failed doesn't
 pub record RowsOfTries : Type 0 where
-  pub free : HasBothWays [] (Ask.TryLock 0) (TryLock 0) (TryFail 0)
+  pub free : HasBothBranches [] (Ask.TryLock 0) (TryLock 0) (TryFail 0)
   pub held : FailsAlone (does 0 (Lock 0) ∷ []) (Ask.TryLock 0) (TryFail 0)
   pub read_held : FailsAlone (does 0 (RLock 0) ∷ []) (Ask.TryLock 0) (TryFail 0)
   pub taken : FailsAlone (does 0 (TryLock 0) ∷ []) (Ask.TryLock 0) (TryFail 0)
   pub taken_for_reading : FailsAlone (does 0 (TryRLock 0) ∷ []) (Ask.TryLock 0) (TryFail 0)
-  pub missed : HasBothWays (does 0 (TryFail 0) ∷ []) (Ask.TryLock 0) (TryLock 0) (TryFail 0)
-  pub unlocked : HasBothWays (does 0 (TryLock 0) ∷ does 0 (Unlock 0) ∷ []) (Ask.TryLock 0) (TryLock 0) (TryFail 0)
-  pub reader : HasBothWays [] (Ask.TryRLock 0) (TryRLock 0) (TryFail 0)
-  pub second_reader : HasBothWays (does 0 (RLock 0) ∷ []) (Ask.TryRLock 0) (TryRLock 0) (TryFail 0)
+  pub missed : HasBothBranches (does 0 (TryFail 0) ∷ []) (Ask.TryLock 0) (TryLock 0) (TryFail 0)
+  pub unlocked : HasBothBranches (does 0 (TryLock 0) ∷ does 0 (Unlock 0) ∷ []) (Ask.TryLock 0) (TryLock 0) (TryFail 0)
+  pub reader : HasBothBranches [] (Ask.TryRLock 0) (TryRLock 0) (TryFail 0)
+  pub second_reader : HasBothBranches (does 0 (RLock 0) ∷ []) (Ask.TryRLock 0) (TryRLock 0) (TryFail 0)
   pub reader_fails : FailsAlone (does 0 (Lock 0) ∷ []) (Ask.TryRLock 0) (TryFail 0)
   pub reader_taken : FailsAlone (does 0 (TryLock 0) ∷ []) (Ask.TryRLock 0) (TryFail 0)
-  pub reader_taken_for_reading : HasBothWays (does 0 (TryRLock 0) ∷ []) (Ask.TryRLock 0) (TryRLock 0) (TryFail 0)
-  pub reader_missed : HasBothWays (does 0 (TryFail 0) ∷ []) (Ask.TryRLock 0) (TryRLock 0) (TryFail 0)
-  pub reader_unlocked : HasBothWays (does 0 (TryLock 0) ∷ does 0 (Unlock 0) ∷ []) (Ask.TryRLock 0) (TryRLock 0) (TryFail 0)
-  pub runlocked : HasBothWays (does 0 (TryRLock 0) ∷ does 0 (RUnlock 0) ∷ []) (Ask.TryLock 0) (TryLock 0) (TryFail 0)
+  pub reader_taken_for_reading : HasBothBranches (does 0 (TryRLock 0) ∷ []) (Ask.TryRLock 0) (TryRLock 0) (TryFail 0)
+  pub reader_missed : HasBothBranches (does 0 (TryFail 0) ∷ []) (Ask.TryRLock 0) (TryRLock 0) (TryFail 0)
+  pub reader_unlocked : HasBothBranches (does 0 (TryLock 0) ∷ does 0 (Unlock 0) ∷ []) (Ask.TryRLock 0) (TryRLock 0) (TryFail 0)
+  pub runlocked : HasBothBranches (does 0 (TryRLock 0) ∷ does 0 (RUnlock 0) ∷ []) (Ask.TryLock 0) (TryLock 0) (TryFail 0)
   pub lock_waits : Stays (does 0 (TryLock 0) ∷ []) (Ask.Lock 0)
   pub lock_waits_for_reader : Stays (does 0 (TryRLock 0) ∷ []) (Ask.Lock 0)
   pub reader_waits : Stays (does 0 (TryLock 0) ∷ []) (Ask.RLock 0)
@@ -91,7 +91,7 @@ pub record RowsOfTries : Type 0 where
   pub runlock : HasRow (does 0 (TryRLock 0) ∷ []) (Ask.RUnlock 0) (RUnlock 0) (Some Answer.Unit)
   pub runlock_missed : HasRow (does 0 (TryFail 0) ∷ []) (Ask.RUnlock 0) (Fault (RUnlockFree 0)) None
   pub runlock_of_writer : HasRow (does 0 (TryLock 0) ∷ []) (Ask.RUnlock 0) (Fault (RUnlockFree 0)) None
-  -- neither way has the row of the other, nor that of a plain lock
+  -- neither branch has the row of the other, nor that of a plain lock
   pub not_behind : (told : Option Answer) → IsRow (Ask.TryLock 0) 1 (TryLock 0) told → ⊥
   pub not_first : (told : Option Answer) → IsRow (Ask.TryLock 0) 0 (TryFail 0) told → ⊥
   pub not_for_reading : (k : ℕ) (told : Option Answer) → IsRow (Ask.TryLock 0) k (TryRLock 0) told → ⊥
@@ -129,22 +129,22 @@ pub record RowsOfMeets : Type 0 where
 
 -- a select goes on by an offer as that does alone, and by its default, which comes behind the offers if it has one, where no offer can
 pub record RowsOfSelects : Type 0 where
-  pub sends : HasWay [] (Ask.Select (Offer.Recv (Some 2) ∷ Offer.Send (Some 1) 7 ∷ []) false) 1 (Send 1 7) (Some (Answer.Chosen 1 None))
+  pub sends : HasBranch [] (Ask.Select (Offer.Recv (Some 2) ∷ Offer.Send (Some 1) 7 ∷ []) false) 1 (Send 1 7) (Some (Answer.Chosen 1 None))
   pub receives :
-      HasWay (does 0 (Send 1 7) ∷ []) (Ask.Select (Offer.Send (Some 0) 5 ∷ Offer.Recv (Some 1) ∷ []) true) 1 (Recv 1 7) (Some (Answer.Chosen 1 (Some 7)))
-  pub finds_closed : HasWay (does 0 (Close 1) ∷ []) (Ask.Select (Offer.Recv (Some 1) ∷ []) true) 0 (RecvClosed 1) (Some (Answer.Chosen 0 None))
-  pub fails : HasWay (does 0 (Close 0) ∷ []) (Ask.Select (Offer.Send (Some 0) 5 ∷ []) true) 0 (Fault (SendClosed 0)) None
+      HasBranch (does 0 (Send 1 7) ∷ []) (Ask.Select (Offer.Send (Some 0) 5 ∷ Offer.Recv (Some 1) ∷ []) true) 1 (Recv 1 7) (Some (Answer.Chosen 1 (Some 7)))
+  pub finds_closed : HasBranch (does 0 (Close 1) ∷ []) (Ask.Select (Offer.Recv (Some 1) ∷ []) true) 0 (RecvClosed 1) (Some (Answer.Chosen 0 None))
+  pub fails : HasBranch (does 0 (Close 0) ∷ []) (Ask.Select (Offer.Send (Some 0) 5 ∷ []) true) 0 (Fault (SendClosed 0)) None
   pub by_default :
-      HasWay [] (Ask.Select (Offer.Send (Some 0) 5 ∷ Offer.Recv (Some 1) ∷ []) true) 2 (Default (sends_on (Some 0) ∷ receives_from (Some 1) ∷ []))
+      HasBranch [] (Ask.Select (Offer.Send (Some 0) 5 ∷ Offer.Recv (Some 1) ∷ []) true) 2 (Default (sends_on (Some 0) ∷ receives_from (Some 1) ∷ []))
       (Some Answer.DefaultTaken)
   pub behind_with : lone_event [] (waits 0 (Ask.Select (Offer.Recv (Some 0) ∷ []) true)) 1
       ≡ Some (record { who = 0; op = Default (receives_from (Some 0) ∷ []); place = 5; place2 = None })
   pub behind_without : lone_event [] (waits 0 (Ask.Select (Offer.Recv (Some 0) ∷ []) false)) 1 ≡ None
   pub waits_without : Stays [] (Ask.Select (Offer.Send (Some 0) 5 ∷ Offer.Recv (Some 1) ∷ []) false)
-  pub nil : HasWay [] (Ask.Select (Offer.Send None 5 ∷ Offer.Recv None ∷ []) true) 2
+  pub nil : HasBranch [] (Ask.Select (Offer.Send None 5 ∷ Offer.Recv None ∷ []) true) 2
       (Default (sends_on None ∷ receives_from None ∷ [])) (Some Answer.DefaultTaken)
   pub nil_waits : Stays [] (Ask.Select (Offer.Send None 5 ∷ Offer.Recv None ∷ []) false)
-  pub nothing : HasWay [] (Ask.Select [] true) 0 (Default []) (Some Answer.DefaultTaken)
+  pub nothing : HasBranch [] (Ask.Select [] true) 0 (Default []) (Some Answer.DefaultTaken)
   pub nothing_waits : Stays [] (Ask.Select [] false)
   pub twice : choices capacities (does 0 (Send 1 7) ∷ []) (alone (Ask.Select (Offer.Recv (Some 1) ∷ Offer.Recv (Some 1) ∷ []) true))
       ≡ choice 0 0 0 0 ∷ choice 0 1 0 0 ∷ []
@@ -182,7 +182,7 @@ abbrev pub NobodyMeetsItself : Type 0
 NobodyMeetsItself =
     (caps : ℕ → ℕ) (past : List Event) (w r : Waiter) (k q : ℕ) → w.who ≡ r.who → is_legal_next caps past (meet_event w k r q) ≡ false
 
--- each request goes on alone, by each of its ways, just where the words of the run so far say so
+-- each request goes on alone, by each of its branches, just where the words of the run so far say so
 abbrev pub EachRowGoesOn : Type 0
 EachRowGoesOn =
     (caps : ℕ → ℕ) (past : List Event) (w : Waiter) (k : ℕ)

@@ -4,7 +4,7 @@ use Rattle.std.specs.Prelude.{◌≡◌, ℕ, ◌≤◌, if◌then◌else◌, �
 use Rattle.std.specs.Prelude.{false, List, length, map, slice_get, Option, Some, None, is_none}
 use Rattle.std.specs.List.{list_any, list_all}
 use Rattle.race_records.specs.declared.{cases.TheConstants.MAX_CASES, event.Event.Event, kind.Kind.Kind}
-use Rattle.race_records.specs.Parts.{chan_is_in_range}
+use Rattle.race_records.specs.Operands.{chan_is_in_range}
 use Rattle.race_model.specs.{Events.gives, State.{started, is_closed, buffered, front, is_held, is_read_held, is_begun}}
 use Rattle.race_model.specs.{State.{is_ended, innermost}, Legal.is_ready}
 use Rattle.race_requests.specs.{declared.request.{Ask.Ask, Offer.Offer}, Offers.{case_of, kept}}
@@ -25,7 +25,7 @@ offer_goes_on caps past None = false
 offer_goes_on caps past (Some (Offer.Send c v)) = sender_goes_on caps past c
 offer_goes_on caps past (Some (Offer.Recv c)) = receiver_goes_on caps past c
 
--- where g's ask goes on alone by its way k, while the run isn't over and g runs
+-- where g's ask goes on alone by its branch k, while the run isn't over and g runs
 abbrev pub goes_on : (ℕ → ℕ) → List Event → ℕ → Ask → ℕ → Bool
 -- nobody is started twice
 goes_on caps past g (Ask.Go h) k = not (h == 0) && not (started h past)

@@ -21,15 +21,15 @@ waits g ask = record { who = g; asked = record { ask = ask; place = g + 5 } }
 abbrev pub alone : Ask → List Waiter
 alone ask = waits 0 ask ∷ []
 
--- after the events past the ask of main alone has the one choice, its way k; it makes the operation, and main is told that
-pub record HasWay (past : List Event) (ask : Ask) (k : ℕ) (op : Op) (told : Option Answer) : Type 0 where
+-- after the events past the ask of main alone has the one choice, its branch k; it makes the operation, and main is told that
+pub record HasBranch (past : List Event) (ask : Ask) (k : ℕ) (op : Op) (told : Option Answer) : Type 0 where
   pub only : choices capacities past (alone ask) ≡ choice 0 k 0 0 ∷ []
   pub event : event_of past (alone ask) (choice 0 k 0 0) ≡ Some (record { who = 0; op = op; place = 5; place2 = None })
   pub row : IsRow ask k op told
 
--- so it has by the one way of an ask that is no select and no try
+-- so it has by the one branch of an ask that is no select and no try
 abbrev pub HasRow : List Event → Ask → Op → Option Answer → Type 0
-HasRow past ask op told = HasWay past ask 0 op told
+HasRow past ask op told = HasBranch past ask 0 op told
 
 -- after the events past it has no choice
 abbrev pub Stays : List Event → Ask → Type 0
@@ -37,7 +37,7 @@ Stays past ask = choices capacities past (alone ask) ≡ []
 
 -- after the events past the try of main alone has two choices, the lock first: by that one it makes the operation and is told that the lock was taken,
 -- and by the other it fails
-pub record HasBothWays (past : List Event) (ask : Ask) (taken missed : Op) : Type 0 where
+pub record HasBothBranches (past : List Event) (ask : Ask) (taken missed : Op) : Type 0 where
   pub both : choices capacities past (alone ask) ≡ choice 0 0 0 0 ∷ choice 0 1 0 0 ∷ []
   pub taken_event : event_of past (alone ask) (choice 0 0 0 0) ≡ Some (record { who = 0; op = taken; place = 5; place2 = None })
   pub taken_row : IsRow ask 0 taken (Some (Answer.Tried true))
@@ -46,7 +46,7 @@ pub record HasBothWays (past : List Event) (ask : Ask) (taken missed : Op) : Typ
 
 -- it has the failure alone
 abbrev pub FailsAlone : List Event → Ask → Op → Type 0
-FailsAlone past ask missed = HasWay past ask 1 missed (Some (Answer.Tried false))
+FailsAlone past ask missed = HasBranch past ask 1 missed (Some (Answer.Tried false))
 
 -- mutex 0 and rwmutex 1, and as many places as main's request needs
 abbrev pub two_locks : Version → DeclsState

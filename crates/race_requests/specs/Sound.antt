@@ -1,8 +1,8 @@
 -- Which requests are bad. (Our own; compare The Go Programming Language Specification, "Go statements"; package sync)
 use Rattle.std.specs.Prelude.{ℕ, ◌==◌, ◌||◌, ◌&&◌, not, nat_lt, Bool, true, false, List, length, Option, Some, None}
 use Rattle.std.specs.{Prelude.is_some, List.list_any, Option.option_map_or}
-use Rattle.race_records.specs.declared.{event.Event.Event, parts.Verb.Verb, version.Version.Version}
-use Rattle.race_records.specs.{Declarations.{DeclsState, is_rw}, Parts.has_verb}
+use Rattle.race_records.specs.declared.{event.Event.Event, operands.OpKeyword.OpKeyword, version.Version.Version}
+use Rattle.race_records.specs.{Declarations.{DeclsState, is_rw}, Operands.has_op_keyword}
 use Rattle.race_model.specs.{Events.gives, State.{started, innermost}}
 use Rattle.race_requests.specs.{declared.request.{Ask.Ask, Waiter.Waiter}, Waiting.is_declared}
 
@@ -31,8 +31,8 @@ has_ask version (Ask.Lock l) = true
 has_ask version (Ask.Unlock l) = true
 has_ask version (Ask.RLock l) = true
 has_ask version (Ask.RUnlock l) = true
-has_ask version (Ask.TryLock l) = has_verb version Verb.TryLock
-has_ask version (Ask.TryRLock l) = has_verb version Verb.TryRLock
+has_ask version (Ask.TryLock l) = has_op_keyword version OpKeyword.TryLock
+has_ask version (Ask.TryRLock l) = has_op_keyword version OpKeyword.TryRLock
 has_ask version (Ask.Do o) = true
 has_ask version (Ask.EndDo o) = true
 

@@ -49,7 +49,7 @@ told_closer (Some c) (Fault (CloseClosed d)) = told_if (d == c) None
 told_closer None (Fault CloseNil) = Some None
 told_closer _ _ = None
 
--- to try to lock, by the way k: the lock is taken by way 0, and not by way 1
+-- to try to lock, by the branch k: the lock is taken by branch 0, and not by branch 1
 abbrev pub told_trier : ℕ → ℕ → Op → Option (Option Answer)
 told_trier l k (TryLock m) = told_if ((k == 0) && (m == l)) (Some (Answer.Tried true))
 told_trier l k (TryFail m) = told_if ((k == 1) && (m == l)) (Some (Answer.Tried false))
@@ -95,27 +95,27 @@ told_plain (Offer.Recv c) op = told_receiver c op
 abbrev pub told_offer : ℕ → Offer → Op → Option (Option Answer)
 told_offer k o op = option_map (option_map (chosen k)) (told_plain o op)
 
--- what is told who asks to select and went on by its way k
+-- what is told who asks to select and went on by its branch k
 abbrev pub told_selector : List Offer → Bool → ℕ → Op → Option (Option Answer)
 told_selector offers has_default k (Default cases) =
     told_if ((has_default && (k == length offers)) && same_cases cases (map case_of offers)) (Some Answer.DefaultTaken)
 told_selector offers has_default k op = elim (slice_get offers k) [ None ↦ None | Some o ↦ told_offer k o op ]
 
--- what is told who asks and did the operation by its way k; None where no row has them. Only a select and a try have another way than 0
+-- what is told who asks and did the operation by its branch k; None where no row has them. Only a select and a try have another branch than 0
 abbrev pub told_at : Ask → ℕ → Op → Option (Option Answer)
 told_at (Ask.Select offers has_default) k op = told_selector offers has_default k op
 told_at (Ask.TryLock l) k op = told_trier l k op
 told_at (Ask.TryRLock l) k op = told_rtrier l k op
 told_at ask k op = if k == 0 then told_by ask op else None
 
--- a row of the table: who asks does the operation, by its way k, and is told that; nothing after an exit and a fault
+-- a row of the table: who asks does the operation, by its branch k, and is told that; nothing after an exit and a fault
 abbrev pub IsRow : Ask → ℕ → Op → Option Answer → Type 0
 IsRow ask k op told = told_at ask k op ≡ Some told
 
--- the step fits the event, in which g takes part: the places are the same, and some way's row has both
+-- the step fits the event, in which g takes part: the places are the same, and some branch's row has both
 abbrev pub Fits : ℕ → Step → Event → Type 0
 Fits g step e = (place_of g e ≡ Some step.asked.place) × ((k : ℕ) × IsRow step.asked.ask k (done_by g e.op) step.told)
 
--- the table has a row for what is asked and what g does in an event with the operation, by some way and with some answer
+-- the table has a row for what is asked and what g does in an event with the operation, by some branch and with some answer
 abbrev pub CanMake : ℕ → Ask → Op → Type 0
 CanMake g ask op = (k : ℕ) × (told : Option Answer) × IsRow ask k (done_by g op) told

@@ -9,9 +9,9 @@ ghost use Rattle.race_requests.specs.Choices as spec;
 ghost use Rattle.race_requests.specs.Waiting as list;
 
 use crate::meet::offer_at;
-use crate::possible::{is_default_way, is_held_up};
+use crate::possible::{is_default_branch, is_held_up};
 use crate::receivers::Receivers;
-use crate::table::way_count;
+use crate::table::branch_count;
 use crate::{
     Ask, Board, Choice, Found, Offer, Offers, Waiter, can_go_on, can_meet, find, lone_event,
     meet_event, pick_choice,
@@ -90,8 +90,8 @@ impl<'a, A: Allocator, B: Allocator> WaitingList<'a, A, B> {
         let Some(partner) = self.get(choice.partner as usize - 1) else {
             return None;
         };
-        let other_way = choice.partner_offer.saturating_sub(1);
-        meet_event(waiter, choice.offer, partner, other_way)
+        let other_branch = choice.partner_offer.saturating_sub(1);
+        meet_event(waiter, choice.offer, partner, other_branch)
     }
 
     // Where the run stands.
@@ -127,36 +127,42 @@ impl<'a, A: Allocator, B: Allocator> WaitingList<'a, A, B> {
         }
     }
 
-    // The event of the request alone, by its way of this number.
-    fn event_alone(&self, waiter: &Waiter, way: u32) -> Option<Event>
+    // The event of the request alone, by its branch of this number.
+    fn event_alone(&self, waiter: &Waiter, branch: u32) -> Option<Event>
         requires { IsTrue (list.is_declared self.now.declarations waiter.now) }
-        ensures { result ≡ spec.lone_event self.now.past waiter.now way }
+        ensures { result ≡ spec.lone_event self.now.past waiter.now branch }
     {
         let (replay, _) = self.run();
-        lone_event(replay, waiter, way)
+        lone_event(replay, waiter, branch)
     }
 
-    // Whether the request can go on alone by its way of this number.
+    // Whether the request can go on alone by its branch of this number.
     #[inline(always)]
-    fn goes_on(&self, waiter: &Waiter, way: u32) -> bool
+    fn goes_on(&self, waiter: &Waiter, branch: u32) -> bool
         requires { IsTrue (list.is_declared self.now.declarations waiter.now) }
         ensures { result ≡ spec.is_legal_next (capacity_of self.now.declarations) self.now.past
-            (spec.lone_event self.now.past waiter.now way) }
+            (spec.lone_event self.now.past waiter.now branch) }
     {
         let (replay, decls) = self.run();
-        can_go_on(replay, decls, waiter, way)
+        can_go_on(replay, decls, waiter, branch)
     }
 
-    // Whether the request by its way can meet the other by its way.
+    // Whether the request by its branch can meet the other by its branch.
     #[inline(always)]
-    fn goes_on_with(&self, sender: &Waiter, way: u32, receiver: &Waiter, other_way: u32) -> bool
+    fn goes_on_with(
+        &self,
+        sender: &Waiter,
+        branch: u32,
+        receiver: &Waiter,
+        other_branch: u32,
+    ) -> bool
         requires sender { IsTrue (list.is_declared self.now.declarations sender.now) }
         requires receiver { IsTrue (list.is_declared self.now.declarations receiver.now) }
         ensures { result ≡ spec.is_legal_next (capacity_of self.now.declarations) self.now.past
-            (spec.meet_event sender.now way receiver.now other_way) }
+            (spec.meet_event sender.now branch receiver.now other_branch) }
     {
         let (replay, decls) = self.run();
-        can_meet(replay, decls, sender, way, receiver, other_way)
+        can_meet(replay, decls, sender, branch, receiver, other_branch)
     }
 
     // Whether the offer sends on an open channel without a buffer.
@@ -177,28 +183,28 @@ impl<'a, A: Allocator, B: Allocator> WaitingList<'a, A, B> {
     fn count(&self) -> u32
         ensures len { result ≡ length self.now.waiting }
         ensures few { result ≤ MAX_GOROUTINES }
-        ensures few_ways { (i : ℕ) → spec.ways_at self.now.waiting i ≤ 17 }
+        ensures few_branches { (i : ℕ) → spec.branches_at self.now.waiting i ≤ 17 }
     {
         self.waiting.len() as u32
     }
 
-    // In how many ways the request at this place can go on.
+    // How many branches the request at this place has.
     #[inline(always)]
-    fn ways_of(&self, place: u32) -> u32
+    fn branches_of(&self, place: u32) -> u32
         requires { place < length self.now.waiting }
-        ensures { result ≡ spec.ways_at self.now.waiting place }
+        ensures { result ≡ spec.branches_at self.now.waiting place }
     {
-        way_count(&self.at(place as usize).asked.ask)
+        branch_count(&self.at(place as usize).asked.ask)
     }
 
     // Whether the request at this place can neither go on alone nor hand anything over, as far as a few loads tell.
     #[inline(always)]
     fn is_idle(&self, place: u32) -> bool
         requires { place < length self.now.waiting }
-        ensures alone { IsTrue result → (way : ℕ) → spec.is_possible (capacity_of self.now.declarations) self.now.past
-            self.now.waiting (spec.choice place way 0 0) ≡ false }
-        ensures meets { IsTrue result → (way p q : ℕ) → spec.is_possible (capacity_of self.now.declarations) self.now.past
-            self.now.waiting (spec.choice place way (p + 1) (q + 1)) ≡ false }
+        ensures alone { IsTrue result → (branch : ℕ) → spec.is_possible (capacity_of self.now.declarations) self.now.past
+            self.now.waiting (spec.choice place branch 0 0) ≡ false }
+        ensures meets { IsTrue result → (branch p q : ℕ) → spec.is_possible (capacity_of self.now.declarations) self.now.past
+            self.now.waiting (spec.choice place branch (p + 1) (q + 1)) ≡ false }
     {
         let waiter = self.at(place as usize);
         self.is_stopped(waiter) && self.has_no_taker(&waiter.asked.ask)
@@ -208,8 +214,8 @@ impl<'a, A: Allocator, B: Allocator> WaitingList<'a, A, B> {
     #[inline(always)]
     fn is_stopped(&self, waiter: &Waiter) -> bool
         requires { IsTrue (list.is_declared self.now.declarations waiter.now) }
-        ensures { IsTrue result → (way : ℕ) → spec.is_legal_next (capacity_of self.now.declarations) self.now.past
-            (spec.lone_event self.now.past waiter.now way) ≡ false }
+        ensures { IsTrue result → (branch : ℕ) → spec.is_legal_next (capacity_of self.now.declarations) self.now.past
+            (spec.lone_event self.now.past waiter.now branch) ≡ false }
     {
         let (replay, decls) = self.run();
         is_held_up(replay, decls, &waiter.asked.ask)
@@ -218,7 +224,7 @@ impl<'a, A: Allocator, B: Allocator> WaitingList<'a, A, B> {
     // Whether nobody takes what the ask may hand over, as far as a few loads tell.
     #[inline(always)]
     fn has_no_taker(&self, ask: &Ask) -> bool
-        ensures { IsTrue result → (way c p : ℕ) → list.sent_on (slice_get (offers_of ask.now) way) ≡ Some c
+        ensures { IsTrue result → (branch c p : ℕ) → list.sent_on (slice_get (offers_of ask.now) branch) ≡ Some c
             → list.receives_at self.now.waiting c p ≡ false }
     {
         match ask {
@@ -242,8 +248,8 @@ impl<'a, A: Allocator, B: Allocator> WaitingList<'a, A, B> {
         let Some(partner) = self.get(choice.partner as usize - 1) else {
             return false;
         };
-        let other_way = choice.partner_offer.saturating_sub(1);
-        self.goes_on_with(waiter, choice.offer, partner, other_way)
+        let other_branch = choice.partner_offer.saturating_sub(1);
+        self.goes_on_with(waiter, choice.offer, partner, other_branch)
     }
 
     // Whether the tuple takes a default.
@@ -285,15 +291,15 @@ impl<'a, A: Allocator, B: Allocator> WaitingList<'a, A, B> {
         self.is_default(choice) && self.can_move(choice.place)
     }
 
-    // The first place from this one on where the request by this way may have a partner; behind the last where there is none.
+    // The first place from this one on where the request by this branch may have a partner; behind the last where there is none.
     #[inline(always)]
-    fn next_partner_of(&self, place: u32, way: u32, from: u32) -> u32
+    fn next_partner_of(&self, place: u32, branch: u32, from: u32) -> u32
         requires { place < length self.now.waiting }
         ensures onward { from ≤ result }
         ensures passed { (p : ℕ) → from ≤ p → p < result → (q : ℕ)
-            → spec.is_possible (capacity_of self.now.declarations) self.now.past self.now.waiting (spec.choice place way (p + 1) (q + 1)) ≡ false }
+            → spec.is_possible (capacity_of self.now.declarations) self.now.past self.now.waiting (spec.choice place branch (p + 1) (q + 1)) ≡ false }
     {
-        let offer = offer_at(&self.at(place as usize).asked.ask, way);
+        let offer = offer_at(&self.at(place as usize).asked.ask, branch);
         let Some(chan) = sent_on(offer) else {
             return from.max(self.count());
         };
@@ -378,13 +384,13 @@ fn is_rendezvous(capacity: u32, closed: bool) -> bool
     capacity == 0 && !closed
 }
 
-// The ask's way of this number is its default.
+// The ask's branch of this number is its default.
 #[inline(always)]
-fn is_default_of(ask: &Ask, way: u32) -> bool
-    ensures { result ≡ spec.is_default_of ask.now way }
+fn is_default_of(ask: &Ask, branch: u32) -> bool
+    ensures { result ≡ spec.is_default_of ask.now branch }
 {
     match ask {
-        Ask::Select(offers, has_default) => is_default_way(offers, *has_default, way),
+        Ask::Select(offers, has_default) => is_default_branch(offers, *has_default, branch),
         _ => false,
     }
 }
@@ -396,7 +402,7 @@ impl<'a, A: Allocator, B: Allocator> Board for WaitingList<'a, A, B> {
 
     ghost size = { λ l. length l.waiting };
 
-    ghost ways_at = { λ l. spec.ways_at l.waiting };
+    ghost branches_at = { λ l. spec.branches_at l.waiting };
 
     ghost admitted = { λ l. spec.is_choice (capacity_of l.declarations) l.past l.waiting };
 
@@ -406,13 +412,13 @@ impl<'a, A: Allocator, B: Allocator> Board for WaitingList<'a, A, B> {
     }
 
     #[inline(always)]
-    fn ways(&self, place: u32) -> u32 {
-        self.ways_of(place)
+    fn branches(&self, place: u32) -> u32 {
+        self.branches_of(place)
     }
 
     #[inline(always)]
-    fn next_partner(&self, place: u32, way: u32, from: u32) -> u32 {
-        self.next_partner_of(place, way, from)
+    fn next_partner(&self, place: u32, branch: u32, from: u32) -> u32 {
+        self.next_partner_of(place, branch, from)
     }
 
     #[inline(always)]
@@ -440,7 +446,7 @@ impl<'b, 'a, A: Allocator, B: Allocator> Board for Moves<'b, 'a, A, B> {
 
     ghost size = { λ m. length m.list.now.waiting };
 
-    ghost ways_at = { λ m. spec.ways_at m.list.now.waiting };
+    ghost branches_at = { λ m. spec.branches_at m.list.now.waiting };
 
     ghost admitted = { λ m t. spec.is_move (capacity_of m.list.now.declarations) m.list.now.past m.list.now.waiting t && spec.stands_in m.place t };
 
@@ -450,15 +456,15 @@ impl<'b, 'a, A: Allocator, B: Allocator> Board for Moves<'b, 'a, A, B> {
     }
 
     #[inline(always)]
-    fn ways(&self, place: u32) -> u32 {
-        self.list.ways_of(place)
+    fn branches(&self, place: u32) -> u32 {
+        self.list.branches_of(place)
     }
 
     #[inline(always)]
-    fn next_partner(&self, place: u32, way: u32, from: u32) -> u32 {
+    fn next_partner(&self, place: u32, branch: u32, from: u32) -> u32 {
         // Of the others' choices those alone count in which it is the partner.
         if place == self.place {
-            self.list.next_partner_of(place, way, from)
+            self.list.next_partner_of(place, branch, from)
         } else if from <= self.place {
             self.place
         } else {

@@ -3,12 +3,12 @@ ghost use Rattle.std.specs.{Prelude.{ℕ, ◌≡◌, ◌==◌, cond, Option, Som
 ghost use Rattle.race_records.specs.declared.event.Cause.TheVariants.{SendClosed, CloseClosed, UnlockFree, RUnlockFree};
 ghost use Rattle.race_records.specs.declared.event.Op.TheVariants.{Send, Recv, RecvClosed, Close, Unlock, RUnlock};
 ghost use Rattle.race_records.specs.declared.event.Op.TheVariants.{TryLock, TryRLock, TryFail, OnceBegin, OnceDone};
-ghost use Rattle.race_records.specs.{declared.event.Op.TheVariants.Fault, Parts.{chan_is_in_range, op_is_in_range}};
+ghost use Rattle.race_records.specs.{declared.event.Op.TheVariants.Fault, Operands.{chan_is_in_range, op_is_in_range}};
 ghost use Rattle.race_legal.specs.{ReplayState.counts_in, StandsFor.ForEachPast};
 ghost use Rattle.race_requests.specs.Possible.{ask_is_in_range, offer_is_in_range};
 ghost use Rattle.race_requests.specs.Choices as spec;
 
-use crate::possible::is_default_way;
+use crate::possible::is_default_branch;
 use crate::{Ask, Offer, Offers, Waiter};
 use race_legal::Replay;
 use race_records::{Cause, Event, Kind, Op};
@@ -79,22 +79,22 @@ fn do_op(once: u32, begun: bool) -> Op
     }
 }
 
-// A try to lock, which takes the lock by its first way.
-fn try_op(lock: u32, way: u32) -> Op
-    ensures { result ≡ cond (way == 0) (TryLock lock) (TryFail lock) }
+// A try to lock, which takes the lock by its first branch.
+fn try_op(lock: u32, branch: u32) -> Op
+    ensures { result ≡ cond (branch == 0) (TryLock lock) (TryFail lock) }
 {
-    if way == 0 {
+    if branch == 0 {
         Op::TryLock(lock)
     } else {
         Op::TryFail(lock)
     }
 }
 
-// A try to lock for reading, which takes the lock by its first way.
-fn tryr_op(lock: u32, way: u32) -> Op
-    ensures { result ≡ cond (way == 0) (TryRLock lock) (TryFail lock) }
+// A try to lock for reading, which takes the lock by its first branch.
+fn tryr_op(lock: u32, branch: u32) -> Op
+    ensures { result ≡ cond (branch == 0) (TryRLock lock) (TryFail lock) }
 {
-    if way == 0 {
+    if branch == 0 {
         Op::TryRLock(lock)
     } else {
         Op::TryFail(lock)
@@ -104,7 +104,7 @@ fn tryr_op(lock: u32, way: u32) -> Op
 // A send on the channel; on nil there is none.
 fn lone_send<A: Allocator>(replay: &Replay<A>, chan: Option<u32>, value: u64) -> Option<Op>
     requires { IsTrue (chan_is_in_range (counts_in replay.now Kind.Chan) chan) }
-    ensures op { ForEachPast replay.now (λ past. (way : ℕ) → result ≡ spec.op_of past (Ask.Send chan value) way) }
+    ensures op { ForEachPast replay.now (λ past. (branch : ℕ) → result ≡ spec.op_of past (Ask.Send chan value) branch) }
     ensures range { IfSome result (λ op. IsTrue (op_is_in_range (counts_in replay.now) op)) }
 {
     let Some(chan) = chan else {
@@ -116,7 +116,7 @@ fn lone_send<A: Allocator>(replay: &Replay<A>, chan: Option<u32>, value: u64) ->
 // A receive from the channel; on nil there is none.
 fn lone_recv<A: Allocator>(replay: &Replay<A>, chan: Option<u32>) -> Option<Op>
     requires { IsTrue (chan_is_in_range (counts_in replay.now Kind.Chan) chan) }
-    ensures op { ForEachPast replay.now (λ past. (way : ℕ) → result ≡ spec.op_of past (Ask.Recv chan) way) }
+    ensures op { ForEachPast replay.now (λ past. (branch : ℕ) → result ≡ spec.op_of past (Ask.Recv chan) branch) }
     ensures range { IfSome result (λ op. IsTrue (op_is_in_range (counts_in replay.now) op)) }
 {
     let Some(chan) = chan else {
@@ -128,7 +128,7 @@ fn lone_recv<A: Allocator>(replay: &Replay<A>, chan: Option<u32>) -> Option<Op>
 // A close of the channel, which fails on nil.
 fn lone_close<A: Allocator>(replay: &Replay<A>, chan: Option<u32>) -> Option<Op>
     requires { IsTrue (chan_is_in_range (counts_in replay.now Kind.Chan) chan) }
-    ensures op { ForEachPast replay.now (λ past. (way : ℕ) → result ≡ spec.op_of past (Ask.Close chan) way) }
+    ensures op { ForEachPast replay.now (λ past. (branch : ℕ) → result ≡ spec.op_of past (Ask.Close chan) branch) }
     ensures range { IfSome result (λ op. IsTrue (op_is_in_range (counts_in replay.now) op)) }
 {
     let Some(chan) = chan else {
@@ -137,21 +137,21 @@ fn lone_close<A: Allocator>(replay: &Replay<A>, chan: Option<u32>) -> Option<Op>
     Some(close_op(chan, replay.is_closed(chan)))
 }
 
-// What a select does alone by its way of this number.
+// What a select does alone by its branch of this number.
 fn lone_select<A: Allocator>(
     replay: &Replay<A>,
     offers: &Offers,
     has_default: bool,
-    way: u32,
+    branch: u32,
 ) -> Option<Op>
     requires { IsTrue (list_all (offer_is_in_range (counts_in replay.now Kind.Chan)) offers.now) }
-    ensures op { ForEachPast replay.now (λ past. result ≡ spec.op_of past (Ask.Select offers.now has_default) way) }
+    ensures op { ForEachPast replay.now (λ past. result ≡ spec.op_of past (Ask.Select offers.now has_default) branch) }
     ensures range { IfSome result (λ op. IsTrue (op_is_in_range (counts_in replay.now) op)) }
 {
-    if is_default_way(offers, has_default, way) {
+    if is_default_branch(offers, has_default, branch) {
         return Some(Op::Default(offers.cases()));
     }
-    let at = way as usize;
+    let at = branch as usize;
     if at >= offers.len() {
         return None;
     }
@@ -161,10 +161,10 @@ fn lone_select<A: Allocator>(
     }
 }
 
-// What the ask does alone by its way of this number.
-pub(crate) fn lone_op<A: Allocator>(replay: &Replay<A>, ask: &Ask, way: u32) -> Option<Op>
+// What the ask does alone by its branch of this number.
+pub(crate) fn lone_op<A: Allocator>(replay: &Replay<A>, ask: &Ask, branch: u32) -> Option<Op>
     requires { IsTrue (ask_is_in_range (counts_in replay.now) ask.now) }
-    ensures op { ForEachPast replay.now (λ past. result ≡ spec.op_of past ask.now way) }
+    ensures op { ForEachPast replay.now (λ past. result ≡ spec.op_of past ask.now branch) }
     ensures range { IfSome result (λ op. IsTrue (op_is_in_range (counts_in replay.now) op)) }
 {
     match ask {
@@ -175,13 +175,13 @@ pub(crate) fn lone_op<A: Allocator>(replay: &Replay<A>, ask: &Ask, way: u32) -> 
         Ask::Send(chan, value) => lone_send(replay, *chan, *value),
         Ask::Recv(chan) => lone_recv(replay, *chan),
         Ask::Close(chan) => lone_close(replay, *chan),
-        Ask::Select(offers, has_default) => lone_select(replay, offers, *has_default, way),
+        Ask::Select(offers, has_default) => lone_select(replay, offers, *has_default, branch),
         Ask::Lock(lock) => Some(Op::Lock(*lock)),
         Ask::Unlock(lock) => Some(unlock_op(*lock, replay.is_held(*lock))),
         Ask::RLock(lock) => Some(Op::RLock(*lock)),
         Ask::RUnlock(lock) => Some(runlock_op(*lock, replay.is_read_held(*lock))),
-        Ask::TryLock(lock) => Some(try_op(*lock, way)),
-        Ask::TryRLock(lock) => Some(tryr_op(*lock, way)),
+        Ask::TryLock(lock) => Some(try_op(*lock, branch)),
+        Ask::TryRLock(lock) => Some(tryr_op(*lock, branch)),
         Ask::Do(once) => Some(do_op(*once, replay.is_begun(*once))),
         Ask::EndDo(once) => Some(Op::OnceEnd(*once)),
     }
@@ -199,13 +199,13 @@ pub(crate) fn event_alone(waiter: &Waiter, op: Op) -> Event
     }
 }
 
-/// The event that the waiting request makes alone by its way of this number, if it can make one. Only of a select and of
-/// a try the number is looked at: other requests have one way.
-pub fn lone_event<A: Allocator>(replay: &Replay<A>, waiter: &Waiter, way: u32) -> Option<Event>
+/// The event that the waiting request makes alone by its branch of this number, if it can make one. Only of a select and of
+/// a try the number is looked at: other requests have one branch.
+pub fn lone_event<A: Allocator>(replay: &Replay<A>, waiter: &Waiter, branch: u32) -> Option<Event>
     requires { IsTrue (ask_is_in_range (counts_in replay.now) waiter.now.asked.ask) }
-    ensures { ForEachPast replay.now (λ past. result ≡ spec.lone_event past waiter.now way) }
+    ensures { ForEachPast replay.now (λ past. result ≡ spec.lone_event past waiter.now branch) }
 {
-    match lone_op(replay, &waiter.asked.ask, way) {
+    match lone_op(replay, &waiter.asked.ask, branch) {
         Some(op) => Some(event_alone(waiter, op)),
         None => None,
     }

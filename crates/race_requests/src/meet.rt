@@ -11,26 +11,26 @@ use race_legal::Replay;
 use race_records::{Decls, Event, Kind, Op};
 use std::alloc::Allocator;
 
-// What the ask offers by its way of this number.
+// What the ask offers by its branch of this number.
 #[inline(always)]
-pub(crate) fn offer_at(ask: &Ask, way: u32) -> Option<Offer>
-    ensures offer { result ≡ slice_get (offers_of ask.now) way }
+pub(crate) fn offer_at(ask: &Ask, branch: u32) -> Option<Offer>
+    ensures offer { result ≡ slice_get (offers_of ask.now) branch }
     ensures range { (counts : Kind → ℕ) → IsTrue (ask_is_in_range counts ask.now)
         → IfSome result (λ o. IsTrue (offer_is_in_range (counts Kind.Chan) o)) }
 {
     match ask {
-        Ask::Send(chan, value) => if way == 0 {
+        Ask::Send(chan, value) => if branch == 0 {
             Some(Offer::Send(*chan, *value))
         } else {
             None
         },
-        Ask::Recv(chan) => if way == 0 {
+        Ask::Recv(chan) => if branch == 0 {
             Some(Offer::Recv(*chan))
         } else {
             None
         },
-        Ask::Select(offers, _) => if (way as usize) < offers.len() {
-            Some(offers.get(way as usize))
+        Ask::Select(offers, _) => if (branch as usize) < offers.len() {
+            Some(offers.get(branch as usize))
         } else {
             None
         },
@@ -57,12 +57,17 @@ fn hands(sends: Option<Offer>, receives: Option<Offer>) -> Option<(u32, u64)>
     }
 }
 
-/// The event in which the one waiting request by its way meets the other by its way, if they offer to.
-pub fn meet_event(sender: &Waiter, way: u32, receiver: &Waiter, other_way: u32) -> Option<Event>
-    ensures { result ≡ spec.meet_event sender.now way receiver.now other_way }
+/// The event in which the one waiting request by its branch meets the other by its branch, if they offer to.
+pub fn meet_event(
+    sender: &Waiter,
+    branch: u32,
+    receiver: &Waiter,
+    other_branch: u32,
+) -> Option<Event>
+    ensures { result ≡ spec.meet_event sender.now branch receiver.now other_branch }
 {
-    let sends = offer_at(&sender.asked.ask, way);
-    let receives = offer_at(&receiver.asked.ask, other_way);
+    let sends = offer_at(&sender.asked.ask, branch);
+    let receives = offer_at(&receiver.asked.ask, other_branch);
     match hands(sends, receives) {
         Some((chan, value)) => Some(Event {
             op: Op::Meet(receiver.who, chan, value),
@@ -74,15 +79,15 @@ pub fn meet_event(sender: &Waiter, way: u32, receiver: &Waiter, other_way: u32) 
     }
 }
 
-/// Whether the one waiting request by its way can meet the other by its way: whether their event breaks no rule after the
+/// Whether the one waiting request by its branch can meet the other by its branch: whether their event breaks no rule after the
 /// events so far.
 pub fn can_meet<A: Allocator, B: Allocator>(
     replay: &Replay<A>,
     decls: &Decls<B>,
     sender: &Waiter,
-    way: u32,
+    branch: u32,
     receiver: &Waiter,
-    other_way: u32,
+    other_branch: u32,
 ) -> bool
 where
     requires same { count_of Kind.Chan decls.now.declarations ≡ counts_in replay.now Kind.Chan }
@@ -91,9 +96,9 @@ where
     requires range { IsTrue (ask_is_in_range (counts_in replay.now) sender.now.asked.ask) }
     ensures { (past : List Event) → StandsFor decls.now.declarations replay.now past
         → result ≡ spec.is_legal_next (capacity_of decls.now.declarations) past
-        (spec.meet_event sender.now way receiver.now other_way) }
+        (spec.meet_event sender.now branch receiver.now other_branch) }
 {
-    match meet_event(sender, way, receiver, other_way) {
+    match meet_event(sender, branch, receiver, other_branch) {
         Some(event) => replay.breaks(&event).is_none(),
         None => false,
     }

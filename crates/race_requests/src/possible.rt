@@ -2,7 +2,7 @@
 ghost use Rattle.std.specs.Prelude.{ℕ, ◌≡◌, ◌<◌, ◌==◌, ◌&&◌, ◌||◌, not, nat_lt, Some, None, false, List, length};
 ghost use Rattle.std.specs.Prelude.{IsTrue};
 ghost use Rattle.race_records.specs.{declared.event.Event.Event, Declarations.{capacity_of, count_of}};
-ghost use Rattle.race_records.specs.Parts.{chan_is_in_range};
+ghost use Rattle.race_records.specs.Operands.{chan_is_in_range};
 ghost use Rattle.race_legal.specs.{ReplayState.counts_in, StandsFor.StandsFor};
 ghost use Rattle.race_requests.specs.Possible.{ask_is_in_range};
 ghost use Rattle.race_requests.specs.Choices as spec;
@@ -14,12 +14,12 @@ use race_legal::Replay;
 use race_records::{Decls, Kind};
 use std::alloc::Allocator;
 
-// By its way of this number the select takes its default, which it has.
+// By its branch of this number the select takes its default, which it has.
 #[inline(always)]
-pub(crate) fn is_default_way(offers: &Offers, has_default: bool, way: u32) -> bool
-    ensures { result ≡ (has_default && (way == length offers.now)) }
+pub(crate) fn is_default_branch(offers: &Offers, has_default: bool, branch: u32) -> bool
+    ensures { result ≡ (has_default && (branch == length offers.now)) }
 {
-    has_default && way as usize == offers.len()
+    has_default && branch as usize == offers.len()
 }
 
 // One of the two holds.
@@ -113,7 +113,7 @@ pub(crate) fn is_held_up<A: Allocator, B: Allocator>(
     requires same { count_of Kind.Chan decls.now.declarations ≡ counts_in replay.now Kind.Chan }
     requires range { IsTrue (ask_is_in_range (counts_in replay.now) ask.now) }
     ensures { (past : List Event) → StandsFor decls.now.declarations replay.now past → IsTrue result
-        → (who way : ℕ) → possible.goes_on (capacity_of decls.now.declarations) past who ask.now way ≡ false }
+        → (who branch : ℕ) → possible.goes_on (capacity_of decls.now.declarations) past who ask.now branch ≡ false }
 {
     match ask {
         Ask::Lock(lock) => !neither(replay.is_held(*lock), replay.is_read_held(*lock)),
@@ -125,21 +125,21 @@ pub(crate) fn is_held_up<A: Allocator, B: Allocator>(
     }
 }
 
-/// Whether the waiting request can go on alone by its way of this number: whether its event breaks no rule after the events so
+/// Whether the waiting request can go on alone by its branch of this number: whether its event breaks no rule after the events so
 /// far.
 pub fn can_go_on<A: Allocator, B: Allocator>(
     replay: &Replay<A>,
     decls: &Decls<B>,
     waiter: &Waiter,
-    way: u32,
+    branch: u32,
 ) -> bool
     requires same { count_of Kind.Chan decls.now.declarations ≡ counts_in replay.now Kind.Chan }
     requires who { waiter.now.who < counts_in replay.now Kind.Goroutine }
     requires range { IsTrue (ask_is_in_range (counts_in replay.now) waiter.now.asked.ask) }
     ensures { (past : List Event) → StandsFor decls.now.declarations replay.now past
-        → result ≡ spec.is_legal_next (capacity_of decls.now.declarations) past (spec.lone_event past waiter.now way) }
+        → result ≡ spec.is_legal_next (capacity_of decls.now.declarations) past (spec.lone_event past waiter.now branch) }
 {
-    match lone_op(replay, &waiter.asked.ask, way) {
+    match lone_op(replay, &waiter.asked.ask, branch) {
         Some(op) => replay.breaks(&event_alone(waiter, op)).is_none(),
         None => false,
     }

@@ -79,8 +79,8 @@ impl Receivers {
         ensures kept { (other i : ℕ) → spec.IsInSpan self.old other i → spec.IsInSpan self.new other i }
         ensures last { spec.ReachTo self.new place (place + 1) }
     {
-        for way in 0..offer_count(ask) {
-            self.mark_offer(offer_at(ask, way), place);
+        for branch in 0..offer_count(ask) {
+            self.mark_offer(offer_at(ask, branch), place);
         }
     }
 

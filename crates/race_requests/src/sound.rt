@@ -2,7 +2,7 @@
 ghost use Rattle.std.specs.Prelude.{◌≡◌, ◌<◌, ◌||◌, ◌&&◌, not, nat_le, length, is_some, IsTrue};
 ghost use Rattle.std.specs.List.{list_any, list_all};
 ghost use Rattle.race_records.specs.declared.{cases.TheConstants.MAX_CASES, kind.Kind.Kind};
-ghost use Rattle.race_records.specs.{Declarations.{count_of, counts_of, is_rw}, Parts.chan_is_in_range};
+ghost use Rattle.race_records.specs.{Declarations.{count_of, counts_of, is_rw}, Operands.chan_is_in_range};
 ghost use Rattle.race_model.specs.Events.{gives};
 ghost use Rattle.race_legal.specs.{ReplayState.counts_in, StandsFor.ForEachPast};
 ghost use Rattle.race_model.specs.State as words;
@@ -11,7 +11,7 @@ ghost use Rattle.race_requests.specs.Sound as spec;
 
 use crate::{Ask, Offer, Offers, Waiter};
 use race_legal::Replay;
-use race_records::{Decls, Kind, Verb};
+use race_records::{Decls, Kind, OpKeyword};
 use std::alloc::Allocator;
 
 // The channel is declared, or it is nil.
@@ -89,8 +89,8 @@ fn is_known<A: Allocator>(decls: &Decls<A>, ask: &Ask) -> bool
     ensures { result ≡ spec.has_ask decls.now.version ask.now }
 {
     match ask {
-        Ask::TryLock(_) => decls.version().has(Verb::TryLock),
-        Ask::TryRLock(_) => decls.version().has(Verb::TryRLock),
+        Ask::TryLock(_) => decls.version().has(OpKeyword::TryLock),
+        Ask::TryRLock(_) => decls.version().has(OpKeyword::TryRLock),
         _ => true,
     }
 }

@@ -1,11 +1,11 @@
 //! The rows of the table: what a goroutine is told, and which event a step of its log fits.
 ghost use Rattle.std.specs.Prelude.{ℕ, ◌≡◌, ◌≤◌, ◌↔◌, if◌then◌else◌, length, Option, Some, None, IsTrue, option_map};
-ghost use Rattle.race_requests.specs.{declared.request.Answer.Answer, Choices.ways, Table.{offers_of, done_by, IsRow}};
+ghost use Rattle.race_requests.specs.{declared.request.Answer.Answer, Choices.branches, Table.{offers_of, done_by, IsRow}};
 ghost use Rattle.race_requests.specs.Table.{Fits, CanMake, told_if, told_sender, told_receiver, told_closer, told_by};
 ghost use Rattle.race_requests.specs.Table.{chosen, told_offer, told_selector, told_at};
 ghost use Rattle.race_requests.specs.Table as spec;
 
-use crate::possible::is_default_way;
+use crate::possible::is_default_branch;
 use crate::{Answer, Ask, Offer, Offers, Step};
 use race_records::{Cause, Event, Op};
 
@@ -83,24 +83,24 @@ fn tells_runlocker(lock: u32, done: &Op) -> Option<Option<Answer>>
     }
 }
 
-// What is told who tries to lock, by its way of this number.
-fn tells_trier(lock: u32, way: u32, done: &Op) -> Option<Option<Answer>>
-    ensures { result ≡ told_at (Ask.TryLock lock) way done.now }
+// What is told who tries to lock, by its branch of this number.
+fn tells_trier(lock: u32, branch: u32, done: &Op) -> Option<Option<Answer>>
+    ensures { result ≡ told_at (Ask.TryLock lock) branch done.now }
 {
     match done {
-        Op::TryLock(taken) => tells(way == 0 && *taken == lock, Some(Answer::Tried(true))),
-        Op::TryFail(missed) => tells(way == 1 && *missed == lock, Some(Answer::Tried(false))),
+        Op::TryLock(taken) => tells(branch == 0 && *taken == lock, Some(Answer::Tried(true))),
+        Op::TryFail(missed) => tells(branch == 1 && *missed == lock, Some(Answer::Tried(false))),
         _ => None,
     }
 }
 
-// What is told who tries to lock for reading, by its way of this number.
-fn tells_rtrier(lock: u32, way: u32, done: &Op) -> Option<Option<Answer>>
-    ensures { result ≡ told_at (Ask.TryRLock lock) way done.now }
+// What is told who tries to lock for reading, by its branch of this number.
+fn tells_rtrier(lock: u32, branch: u32, done: &Op) -> Option<Option<Answer>>
+    ensures { result ≡ told_at (Ask.TryRLock lock) branch done.now }
 {
     match done {
-        Op::TryRLock(taken) => tells(way == 0 && *taken == lock, Some(Answer::Tried(true))),
-        Op::TryFail(missed) => tells(way == 1 && *missed == lock, Some(Answer::Tried(false))),
+        Op::TryRLock(taken) => tells(branch == 0 && *taken == lock, Some(Answer::Tried(true))),
+        Op::TryFail(missed) => tells(branch == 1 && *missed == lock, Some(Answer::Tried(false))),
         _ => None,
     }
 }
@@ -117,41 +117,46 @@ fn tells_doer(once: u32, done: &Op) -> Option<Option<Answer>>
 }
 
 // What is told who asks by its offer of this number, where a plain one is told that.
-fn tells_chosen(way: u32, told: Option<Option<Answer>>) -> Option<Option<Answer>>
-    ensures { result ≡ option_map (option_map (chosen way)) told }
+fn tells_chosen(branch: u32, told: Option<Option<Answer>>) -> Option<Option<Answer>>
+    ensures { result ≡ option_map (option_map (chosen branch)) told }
 {
     match told {
-        Some(Some(Answer::Value(value))) => Some(Some(Answer::Chosen(way, Some(value)))),
-        Some(Some(_)) => Some(Some(Answer::Chosen(way, None))),
+        Some(Some(Answer::Value(value))) => Some(Some(Answer::Chosen(branch, Some(value)))),
+        Some(Some(_)) => Some(Some(Answer::Chosen(branch, None))),
         Some(None) => Some(None),
         None => None,
     }
 }
 
 // What is told who went on by that offer, which is its offer of this number.
-fn tells_offer(way: u32, offer: Offer, done: &Op) -> Option<Option<Answer>>
-    ensures { result ≡ told_offer way offer done.now }
+fn tells_offer(branch: u32, offer: Offer, done: &Op) -> Option<Option<Answer>>
+    ensures { result ≡ told_offer branch offer done.now }
 {
     match offer {
-        Offer::Send(chan, value) => tells_chosen(way, tells_sender(chan, value, done)),
-        Offer::Recv(chan) => tells_chosen(way, tells_receiver(chan, done)),
+        Offer::Send(chan, value) => tells_chosen(branch, tells_sender(chan, value, done)),
+        Offer::Recv(chan) => tells_chosen(branch, tells_receiver(chan, done)),
     }
 }
 
 // What is told who asks to select.
-fn tells_selector(offers: &Offers, has_default: bool, way: u32, done: &Op) -> Option<Option<Answer>>
-    ensures { result ≡ told_selector offers.now has_default way done.now }
+fn tells_selector(
+    offers: &Offers,
+    has_default: bool,
+    branch: u32,
+    done: &Op,
+) -> Option<Option<Answer>>
+    ensures { result ≡ told_selector offers.now has_default branch done.now }
 {
     if let Op::Default(cases) = done {
         return tells(
-            is_default_way(offers, has_default, way) && *cases == offers.cases(),
+            is_default_branch(offers, has_default, branch) && *cases == offers.cases(),
             Some(Answer::DefaultTaken),
         );
     }
-    if way as usize >= offers.len() {
+    if branch as usize >= offers.len() {
         return None;
     }
-    tells_offer(way, offers.get(way as usize), done)
+    tells_offer(branch, offers.get(branch as usize), done)
 }
 
 // What is told who asks, but to select or to try, and did that.
@@ -197,30 +202,34 @@ fn tells_by(ask: &Ask, done: &Op) -> Option<Option<Answer>>
     }
 }
 
-// What is told who asks and did that by its way of this number.
-fn tells_at(ask: &Ask, way: u32, done: &Op) -> Option<Option<Answer>>
-    ensures { result ≡ told_at ask.now way done.now }
+// What is told who asks and did that by its branch of this number.
+fn tells_at(ask: &Ask, branch: u32, done: &Op) -> Option<Option<Answer>>
+    ensures { result ≡ told_at ask.now branch done.now }
 {
     match ask {
-        Ask::Select(offers, has_default) => tells_selector(offers, *has_default, way, done),
-        Ask::TryLock(lock) => tells_trier(*lock, way, done),
-        Ask::TryRLock(lock) => tells_rtrier(*lock, way, done),
-        _ => if way == 0 { tells_by(ask, done) } else { None },
+        Ask::Select(offers, has_default) => tells_selector(offers, *has_default, branch, done),
+        Ask::TryLock(lock) => tells_trier(*lock, branch, done),
+        Ask::TryRLock(lock) => tells_rtrier(*lock, branch, done),
+        _ => if branch == 0 {
+            tells_by(ask, done)
+        } else {
+            None
+        },
     }
 }
 
-/// What the goroutine is told that asks and takes part in an event with this operation, by its way of this number: `None`
+/// What the goroutine is told that asks and takes part in an event with this operation, by its branch of this number: `None`
 /// where the table has no such row, and `Some(None)` where it is told nothing, as after an exit and a fault.
-pub fn answer_of(who: u32, ask: &Ask, way: u32, op: &Op) -> Option<Option<Answer>>
-    ensures { result ≡ told_at ask.now way (done_by who op.now) }
+pub fn answer_of(who: u32, ask: &Ask, branch: u32, op: &Op) -> Option<Option<Answer>>
+    ensures { result ≡ told_at ask.now branch (done_by who op.now) }
 {
     match op {
         Op::Meet(receiver, chan, value) => if *receiver == who {
-            tells_at(ask, way, &Op::Recv(*chan, *value))
+            tells_at(ask, branch, &Op::Recv(*chan, *value))
         } else {
-            tells_at(ask, way, &Op::Send(*chan, *value))
+            tells_at(ask, branch, &Op::Send(*chan, *value))
         },
-        _ => tells_at(ask, way, op),
+        _ => tells_at(ask, branch, op),
     }
 }
 
@@ -263,10 +272,10 @@ pub(crate) fn offer_count(ask: &Ask) -> u32
     }
 }
 
-/// In how many ways who asks can go on.
+/// How many branches who asks has.
 #[inline(always)]
-pub(crate) fn way_count(ask: &Ask) -> u32
-    ensures { result ≡ ways ask.now }
+pub(crate) fn branch_count(ask: &Ask) -> u32
+    ensures { result ≡ branches ask.now }
 {
     match ask {
         Ask::Select(offers, has_default) => offers.len() as u32 + u32::from(*has_default),
@@ -276,12 +285,12 @@ pub(crate) fn way_count(ask: &Ask) -> u32
     }
 }
 
-// Whether by some way the table has a row that tells that.
-fn is_told_by_some_way(who: u32, step: &Step, op: &Op) -> bool
+// Whether by some branch the table has a row that tells that.
+fn is_told_by_some_branch(who: u32, step: &Step, op: &Op) -> bool
     ensures { IsTrue result ↔ ((k : ℕ) × IsRow step.now.asked.ask k (done_by who op.now) step.now.told) }
 {
-    for way in 0..way_count(&step.asked.ask) {
-        if is_told(answer_of(who, &step.asked.ask, way, op), step.told) {
+    for branch in 0..branch_count(&step.asked.ask) {
+        if is_told(answer_of(who, &step.asked.ask, branch, op), step.told) {
             return true;
         }
     }
@@ -295,15 +304,15 @@ pub fn fits_step(who: u32, step: &Step, event: &Event) -> bool
     if place_of(who, event) != Some(step.asked.place) {
         return false;
     }
-    is_told_by_some_way(who, step, &event.op)
+    is_told_by_some_branch(who, step, &event.op)
 }
 
 /// Whether the table has a row for what the goroutine asks and what it does in an event with this operation.
 pub fn can_make(who: u32, ask: &Ask, op: &Op) -> bool
     ensures { IsTrue result ↔ CanMake who ask.now op.now }
 {
-    for way in 0..way_count(ask) {
-        if answer_of(who, ask, way, op).is_some() {
+    for branch in 0..branch_count(ask) {
+        if answer_of(who, ask, branch, op).is_some() {
             return true;
         }
     }

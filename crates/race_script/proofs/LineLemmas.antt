@@ -11,8 +11,8 @@ use Rattle.race_records.specs.{Equality.{Declared, declared}, Name.is_place}
 use Rattle.race_requests.specs.Sound.{has_ask}
 use Rattle.race_text.specs.{declared.cause.TextCause.TextCause, Fault.{or_else, declaration_in, declared_as}}
 use Rattle.race_text.specs.{Form.{word_named, first_word, arguments}, Select.nil, Text.{line_of, declaration_line}}
-use Rattle.race_text.specs.{Words.words_of, Writing.part_text}
-use Rattle.race_script.specs.{declared.form.{AskWord.AskWord, LineWord.LineWord}, Bodies.is_exit, Fault.words_cause}
+use Rattle.race_text.specs.{Words.words_of, Writing.operand_text}
+use Rattle.race_script.specs.{declared.form.{StepKeyword.StepKeyword, LineKeyword.LineKeyword}, Bodies.is_exit, Fault.words_cause}
 use Rattle.race_script.specs.{Fault.{asked_cause, said_cause, word_cause, line_cause, cause}, Form.has_ask_word}
 use Rattle.race_script.specs.Form.{line_word_in, word_on_nil, AskedWords, on_nil, ask_fields, begin_fields}
 use Rattle.race_script.specs.{Offers.select_words, Program.{Instruction, Draft, ask_fits, declared_by, bodies_of}}
@@ -37,12 +37,12 @@ pub record IsSaidLine (w : Declared) (line : List ℕ) (said : Said) : Type 0 wh
   pub cause_is : (d : Draft) → declared_by d ≡ w → line_cause d line ≡ said_cause d said
 
 -- the words in front of an ask's, by the word of the table
-nil_again : (word : AskWord) (words : List (List ℕ)) (asked : AskedWords) → on_nil word words ≡ asked
+nil_again : (word : StepKeyword) (words : List (List ℕ)) (asked : AskedWords) → on_nil word words ≡ asked
     → ((word ≡ asked.0) × (words ≡ asked.1)) ⊎ ((word_on_nil word ≡ Some asked.0) × (words ≡ nil ∷ asked.1))
 nil_again word [] asked h = inl (ap (λ (a : AskedWords). a.0) h, ap (λ (a : AskedWords). a.1) h)
 nil_again word (w ∷ ws) asked h = by (bytes_eq w nil) refl h
   where
-    found : (o : Option AskWord) → word_on_nil word ≡ o → bytes_eq w nil ≡ true → option_map_or (λ other. (other, ws)) o (word, w ∷ ws) ≡ asked
+    found : (o : Option StepKeyword) → word_on_nil word ≡ o → bytes_eq w nil ≡ true → option_map_or (λ other. (other, ws)) o (word, w ∷ ws) ≡ asked
         → ((word ≡ asked.0) × ((w ∷ ws) ≡ asked.1)) ⊎ ((word_on_nil word ≡ Some asked.0) × ((w ∷ ws) ≡ nil ∷ asked.1))
     found None e same h = inl (ap (λ (a : AskedWords). a.0) h, ap (λ (a : AskedWords). a.1) h)
     found (Some other) e same h =
@@ -54,17 +54,17 @@ nil_again word (w ∷ ws) asked h = by (bytes_eq w nil) refl h
     by false other h = inl (ap (λ (a : AskedWords). a.0) h, ap (λ (a : AskedWords). a.1) h)
 
 -- the words in front, by the word of the table
-table_front : (word : AskWord) → has_front (LineWord.Asks word) ≡ true → (first_text (LineWord.Asks word) ∷ []) ≡ front_words word
-table_front AskWord.SendNil h = absurd (true≢false (sym h))
-table_front AskWord.RecvNil h = absurd (true≢false (sym h))
-table_front AskWord.CloseNil h = absurd (true≢false (sym h))
-table_front AskWord.Go h = refl
+table_front : (word : StepKeyword) → has_front (LineKeyword.Asks word) ≡ true → (first_text (LineKeyword.Asks word) ∷ []) ≡ front_words word
+table_front StepKeyword.SendNil h = absurd (true≢false (sym h))
+table_front StepKeyword.RecvNil h = absurd (true≢false (sym h))
+table_front StepKeyword.CloseNil h = absurd (true≢false (sym h))
+table_front StepKeyword.Go h = refl
 table_front _ h = refl
 
-nil_front : (word other : AskWord) → word_on_nil word ≡ Some other → (first_text (LineWord.Asks word) ∷ nil ∷ []) ≡ front_words other
-nil_front AskWord.Send other h = ap front_words (same_Some AskWord.SendNil other h)
-nil_front AskWord.Recv other h = ap front_words (same_Some AskWord.RecvNil other h)
-nil_front AskWord.Close other h = ap front_words (same_Some AskWord.CloseNil other h)
+nil_front : (word other : StepKeyword) → word_on_nil word ≡ Some other → (first_text (LineKeyword.Asks word) ∷ nil ∷ []) ≡ front_words other
+nil_front StepKeyword.Send other h = ap front_words (same_Some StepKeyword.SendNil other h)
+nil_front StepKeyword.Recv other h = ap front_words (same_Some StepKeyword.RecvNil other h)
+nil_front StepKeyword.Close other h = ap front_words (same_Some StepKeyword.CloseNil other h)
 nil_front _ other h = absurd (none-some other h)
 
 module _ (decls : DeclsState) (holds : IsWellFormed decls) (line : List ℕ) where
@@ -77,7 +77,7 @@ module _ (decls : DeclsState) (holds : IsWellFormed decls) (line : List ℕ) whe
   joined : (words : List (List ℕ)) → words_of line ≡ first ∷ words → line ≡ line_of (first ∷ words)
   joined words behind = sym (join_with_byte-slice_split 32 line) ∙ ap line_of behind
 
-  pub clean_cause : (word : LineWord) (words : List (List ℕ)) → HasWords decls.version line word words → (d : Draft) → declared_by d ≡ declared decls
+  pub clean_cause : (word : LineKeyword) (words : List (List ℕ)) → HasWords decls.version line word words → (d : Draft) → declared_by d ≡ declared decls
       → line_cause d line ≡ word_cause d (Some word) words
   unfolding line_cause
   clean_cause word words has d same =
@@ -86,78 +86,78 @@ module _ (decls : DeclsState) (holds : IsWellFormed decls) (line : List ℕ) whe
       ∙ ap (λ w. word_cause d w words) has.named
 
   -- a line that begins a body
-  pub begins_line : (words : List (List ℕ)) (g : ℕ) → HasWords decls.version line LineWord.Begins words → begun_in ds words ≡ Some g
+  pub begins_line : (words : List (List ℕ)) (g : ℕ) → HasWords decls.version line LineKeyword.Begins words → begun_in ds words ≡ Some g
       → IsSaidLine (declared decls) line (Begins g)
   begins_line words g has says =
       let is = is_begun decls holds words g says in
-      let word = body_word first LineWord.Begins (found_is_had decls.version first LineWord.Begins has.named).0 refl in
+      let word = body_word first LineKeyword.Begins (found_is_had decls.version first LineKeyword.Begins has.named).0 refl in
       record {
         line_is = joined words has.behind ∙ (λ k. line_of (word.text k ∷ is.text k));
         says = (λ k. said_by ds (has.named k) (arguments (has.behind k))) ∙ ap (option_map Begins) says;
         declares = ap (λ ws. declared_as (word_named first) (arguments ws)) has.behind ∙ word.declares words;
         fits = is.less;
-        cause_is = λ d same. clean_cause LineWord.Begins words has d same
+        cause_is = λ d same. clean_cause LineKeyword.Begins words has d same
             ∙ (λ k. or_else (words_cause (same k).declarations begin_fields words)
-            (option_and_then (said_cause d) (said_by (same k).declarations (Some LineWord.Begins) words)))
+            (option_and_then (said_cause d) (said_by (same k).declarations (Some LineKeyword.Begins) words)))
             ∙ (λ k. or_else (is.fine k) (option_and_then (said_cause d) (option_map Begins (says k))));
       }
 
   -- a line that asks
-  front_is : (word : AskWord) (asked : AskedWords) (words : List (List ℕ)) → on_nil word words ≡ asked → first ≡ first_text (LineWord.Asks word)
-      → has_front (LineWord.Asks word) ≡ true → (first ∷ words) ≡ front_words asked.0 ++ asked.1
+  front_is : (word : StepKeyword) (asked : AskedWords) (words : List (List ℕ)) → on_nil word words ≡ asked → first ≡ first_text (LineKeyword.Asks word)
+      → has_front (LineKeyword.Asks word) ≡ true → (first ∷ words) ≡ front_words asked.0 ++ asked.1
   front_is word asked words h text known = elim (nil_again word words asked h) [
     | inl same ↦ (λ k. text k ∷ same.1 k) ∙ ap (λ fs. fs ++ asked.1) (table_front word known) ∙ ap (λ w. front_words w ++ asked.1) same.0
     | inr other ↦ (λ k. text k ∷ other.1 k) ∙ ap (λ fs. fs ++ asked.1) (nil_front word asked.0 other.0)
   ]
 
   -- what is asked is of the version, as its word is
-  ask_is_had : (word : AskWord) (words : List (List ℕ)) (asked : AskedWords) → on_nil word words ≡ asked
+  ask_is_had : (word : StepKeyword) (words : List (List ℕ)) (asked : AskedWords) → on_nil word words ≡ asked
       → has_ask_word decls.version word ≡ true → has_ask_word decls.version asked.0 ≡ true
   ask_is_had word words asked h has = elim (nil_again word words asked h) [
     | inl same ↦ ap (has_ask_word decls.version) (sym same.0) ∙ has
     | inr other ↦ has_on_nil decls.version word asked.0 other.0
   ]
 
-  pub asks_line : (word : AskWord) (words : List (List ℕ)) (i : Instruction) → HasWords decls.version line (LineWord.Asks word) words
+  pub asks_line : (word : StepKeyword) (words : List (List ℕ)) (i : Instruction) → HasWords decls.version line (LineKeyword.Asks word) words
       → asked_in ds (on_nil word words).0 (on_nil word words).1 ≡ Some i → IsSaidLine (declared decls) line (Asks i)
   asks_line word words i has says =
       let asked = on_nil word words in
       let is = are_asked decls holds asked.0 asked.1 i says in
-      let found = found_is_had decls.version first (LineWord.Asks word) has.named in
-      let first_is = body_word first (LineWord.Asks word) found.0 refl in
-      let front = front_is word asked words refl first_is.text (found_has_front first (LineWord.Asks word) found.0) in
+      let found = found_is_had decls.version first (LineKeyword.Asks word) has.named in
+      let first_is = body_word first (LineKeyword.Asks word) found.0 refl in
+      let front = front_is word asked words refl first_is.text (found_has_front first (LineKeyword.Asks word) found.0) in
       let had : has_ask decls.version i.ask ≡ true =
       so_it_says (λ said. has_ask decls.version i.ask ≡ has_ask_word decls.version said.0) (ask_says i.ask)
-      (asked.0, is.parts) is.says (had_by_word decls.version i.ask)
+      (asked.0, is.operands) is.says (had_by_word decls.version i.ask)
       ∙ ask_is_had word words asked refl found.1 in
       record {
         line_is = joined words has.behind ∙ ap line_of front ∙ (λ k. line_of (front_words asked.0 ++ is.text k))
             ∙ ap line_of (sym (so_it_says (λ said. ask_words ds i.place i.ask ≡ front_words said.0
-            ++ (map (part_text ds) said.1 ++ i.place ∷ [])) (ask_says i.ask)
-            (asked.0, is.parts) is.says (ask_words_are ds i.place i.ask)));
+            ++ (map (operand_text ds) said.1 ++ i.place ∷ [])) (ask_says i.ask)
+            (asked.0, is.operands) is.says (ask_words_are ds i.place i.ask)));
         says = (λ k. said_by ds (has.named k) (arguments (has.behind k))) ∙ ap (option_map Asks) says;
         declares = ap (λ ws. declared_as (word_named first) (arguments ws)) has.behind ∙ first_is.declares words;
         fits = (is.fits, is.form, had);
-        cause_is = λ d same. clean_cause (LineWord.Asks word) words has d same
+        cause_is = λ d same. clean_cause (LineKeyword.Asks word) words has d same
             ∙ (λ k. or_else (words_cause (same k).declarations (ask_fields asked.0) asked.1)
             (option_and_then (said_cause d) (asks_by (same k).declarations asked)))
             ∙ (λ k. or_else (is.fine k) (option_and_then (said_cause d) (option_map Asks (says k))));
       }
 
   -- a line that asks by a select
-  pub selects_line : (words : List (List ℕ)) (i : Instruction) → HasWords decls.version line LineWord.Selects words
+  pub selects_line : (words : List (List ℕ)) (i : Instruction) → HasWords decls.version line LineKeyword.Selects words
       → selected_in ds (select_words words) ≡ Ok i → IsSaidLine (declared decls) line (Asks i)
   selects_line words i has says =
       let is = are_selected decls holds words i says in
-      let word = body_word first LineWord.Selects (found_is_had decls.version first LineWord.Selects has.named).0 refl in
+      let word = body_word first LineKeyword.Selects (found_is_had decls.version first LineKeyword.Selects has.named).0 refl in
       record {
         line_is = joined words has.behind ∙ (λ k. line_of (word.text k ∷ is.text k)) ∙ ap (λ ask. line_of (ask_words ds i.place ask)) (sym is.asks);
         says = (λ k. said_by ds (has.named k) (arguments (has.behind k))) ∙ ap (λ r. option_map Asks (result_ok r)) says;
         declares = ap (λ ws. declared_as (word_named first) (arguments ws)) has.behind ∙ word.declares words;
         fits = (is.fits, is.form, ap (has_ask decls.version) is.asks);
-        cause_is = λ d same. clean_cause LineWord.Selects words has d same
+        cause_is = λ d same. clean_cause LineKeyword.Selects words has d same
             ∙ (λ k. or_else (result_err (selected_in (same k).declarations (select_words words)))
-            (option_and_then (said_cause d) (said_by (same k).declarations (Some LineWord.Selects) words)))
+            (option_and_then (said_cause d) (said_by (same k).declarations (Some LineKeyword.Selects) words)))
             ∙ (λ k. or_else (result_err (says k)) (option_and_then (said_cause d) (option_map Asks (result_ok (says k)))));
       }
 

@@ -7,7 +7,7 @@ use Rattle.race_records.specs.Declarations.{Declaration}
 use Rattle.race_requests.specs.declared.request.Offer.{Offer}
 use Rattle.race_text.specs.{declared.cause.TextCause.TextCause, Meaning.{chan_in, value_in}, Words.number}
 use Rattle.race_text.proofs.{CaseWords.is_chan, CauseLemmas.{then_is, with_is, both_are, same_Ok, ok_or_is}}
-use Rattle.race_text.proofs.{PartWords.{number_spelled, number_within}, PieceWords.{IsWord, is_word}}
+use Rattle.race_text.proofs.{OperandWords.{number_spelled, number_within}, PieceWords.{IsWord, is_word}}
 use Rattle.race_script.specs.Offers.{SpelledOffer, offer_by, parts_of_offer, offer_spelled, spelled_offer_in, offer_in}
 use Rattle.race_script.{specs.Offers.{offers_in, offer_parts, offer_text}, proofs.OfferAgain.offer_is_fine}
 

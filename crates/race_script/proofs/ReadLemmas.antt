@@ -6,7 +6,7 @@ use Rattle.std.proofs.lemmas.{Bool.Decides.nat_tests, List.{length-append, lengt
 use Rattle.std.{proofs.lemmas.{Option.{none-some, same_Some}, Slice.Eq.bytes_eq-Decides}, specs.List.filter_map}
 use Rattle.std.specs.{List.{cons_option, list_all, flat_map}, Option.{option_and_then, option_map_or}, Str.bytes_eq}
 use Rattle.std.specs.Result.{result_err}
-use Rattle.race_records.specs.declared.{kind.Kind.Kind, nouns.Noun.Noun, version.Version.Version}
+use Rattle.race_records.specs.declared.{kind.Kind.Kind, decl_keywords.DeclKeyword.DeclKeyword, version.Version.Version}
 use Rattle.race_records.specs.Declarations.{Declaration, DeclsState, IsWellFormed, count_of, with_declaration}
 use Rattle.race_records.specs.{Equality.{Declared, declared}, Refusal.{Refuses, AllowsUnless}}
 use Rattle.race_records.proofs.{DeclFaultLemmas.allowed_from_no_fault, DeclsKept.{empty_well_formed, push_well_formed}}
@@ -18,7 +18,7 @@ use Rattle.race_text.specs.{Form.{word_named, first_word, arguments}, Lines.Goes
 use Rattle.race_text.specs.{Text.{declaration_line, ended}, Words.{words_of, has_bad_byte}}
 use Rattle.race_text.proofs.{ReaderLemmas.declaration_of_line, TextLaws.{IsDeclarationLine, declaration_again}}
 use Rattle.race_text.proofs.WordLemmas.{both}
-use Rattle.race_script.specs.{declared.form.{AskWord.AskWord, LineWord.LineWord}, Fault.{words_cause, said_cause}}
+use Rattle.race_script.specs.{declared.form.{StepKeyword.StepKeyword, LineKeyword.LineKeyword}, Fault.{words_cause, said_cause}}
 use Rattle.race_script.specs.Fault.{word_cause, line_cause, cause, end_cause, program_causes, is_whole}
 use Rattle.race_script.specs.{Form.{line_word, line_word_in, on_nil, ask_fields, begin_fields}, Offers.select_words}
 use Rattle.race_script.specs.Program.{Instruction, Draft, IsProgram, draft_of, is_body_of, spelled, bodies_of}
@@ -28,7 +28,7 @@ use Rattle.race_script.specs.{Reader.{TakesSaid, TakesLine, TakesOrTells}, Readi
 use Rattle.race_script.specs.Reading.{asks_by, said_in, with_said, nothing_said, all_said, declared_in, seen}
 use Rattle.race_script.specs.Text.{header, Said, lines, draft_text, program_text}
 use Rattle.race_script.proofs.ParseLemmas.{header_before_end, end_empty}
-use Rattle.race_script.proofs.{AskTable.{noun_word, noun_word_in, found_is_had}, LineLemmas.{IsSaidLine, clean_cause}}
+use Rattle.race_script.proofs.{AskTable.{decl_keyword_word, decl_keyword_word_in, found_is_had}, LineLemmas.{IsSaidLine, clean_cause}}
 use Rattle.race_script.proofs.LineLemmas.{seen_said, lines_said, cause_behind}
 
 -- lines that declare say nothing of bodies, and all that is declared
@@ -40,7 +40,7 @@ all_declared (d ∷ ds) each =
     let rest = all_declared ds (λ i e less. each (suc i) e (omega (arith, less))) in (
       (λ k. cons_option (is.declares k) (rest.0 k)),
       λ w k. cons_option (ap (λ o. said_by w.declarations o (arguments (words_of (declaration_line d))))
-          (noun_word_in w.version (first_word (words_of (declaration_line d))) _ is.named) k) (rest.1 w k),
+          (decl_keyword_word_in w.version (first_word (words_of (declaration_line d))) _ is.named) k) (rest.1 w k),
     )
 
 pub declaration_lines : (decls : DeclsState) → IsWellFormed decls
@@ -141,23 +141,23 @@ module _ (old : ReadState) (read : IsRead old) (line : List ℕ) where
       tells ∙ sym (ap owed (cause_behind d line read.seen_is ∙ is.cause_is d refl))
 
   -- the words behind the first
-  pub begin_told : (words : List (List ℕ)) (told : TextCause) → HasWords old.decls.version line LineWord.Begins words → words_cause ds begin_fields words ≡ Some told
+  pub begin_told : (words : List (List ℕ)) (told : TextCause) → HasWords old.decls.version line LineKeyword.Begins words → words_cause ds begin_fields words ≡ Some told
       → cause (lines d) line true ≡ Some told
   begin_told words told has h =
-      told_by_line told (clean_cause old.decls read.sound.well_formed line LineWord.Begins words has d refl
-      ∙ ap (λ c. or_else c (option_and_then (said_cause d) (said_by ds (Some LineWord.Begins) words))) h)
+      told_by_line told (clean_cause old.decls read.sound.well_formed line LineKeyword.Begins words has d refl
+      ∙ ap (λ c. or_else c (option_and_then (said_cause d) (said_by ds (Some LineKeyword.Begins) words))) h)
 
-  pub asks_told : (word : AskWord) (words : List (List ℕ)) (told : TextCause) → HasWords old.decls.version line (LineWord.Asks word) words
+  pub asks_told : (word : StepKeyword) (words : List (List ℕ)) (told : TextCause) → HasWords old.decls.version line (LineKeyword.Asks word) words
       → words_cause ds (ask_fields (on_nil word words).0) (on_nil word words).1 ≡ Some told → cause (lines d) line true ≡ Some told
   asks_told word words told has h =
-      told_by_line told (clean_cause old.decls read.sound.well_formed line (LineWord.Asks word) words has d refl
+      told_by_line told (clean_cause old.decls read.sound.well_formed line (LineKeyword.Asks word) words has d refl
       ∙ ap (λ c. or_else c (option_and_then (said_cause d) (asks_by ds (on_nil word words)))) h)
 
-  pub selects_told : (words : List (List ℕ)) (told : TextCause) → HasWords old.decls.version line LineWord.Selects words
+  pub selects_told : (words : List (List ℕ)) (told : TextCause) → HasWords old.decls.version line LineKeyword.Selects words
       → result_err (selected_in ds (select_words words)) ≡ Some told → cause (lines d) line true ≡ Some told
   selects_told words told has h =
-      told_by_line told (clean_cause old.decls read.sound.well_formed line LineWord.Selects words has d refl
-      ∙ ap (λ c. or_else c (option_and_then (said_cause d) (said_by ds (Some LineWord.Selects) words))) h)
+      told_by_line told (clean_cause old.decls read.sound.well_formed line LineKeyword.Selects words has d refl
+      ∙ ap (λ c. or_else c (option_and_then (said_cause d) (said_by ds (Some LineKeyword.Selects) words))) h)
 
   pub bad_byte_told : has_bad_byte line ≡ true → cause (lines d) line true ≡ Some TextCause.BadByte
   unfolding line_cause
@@ -172,22 +172,22 @@ module _ (old : ReadState) (read : IsRead old) (line : List ℕ) where
       ∙ ap (λ w. word_cause d w (arguments (words_of line))) none)
 
   -- a line that declares
-  module _ (noun : Noun) (words : List (List ℕ)) (has : HasWords old.decls.version line (LineWord.Declares noun) words) where
-    pub declares_cause : cause (lines d) line true ≡ text_cause (seen_so_far ds (length (bodies_of d))) (Some (Word.Declares noun)) words
-    declares_cause = cause_behind d line read.seen_is ∙ clean_cause old.decls read.sound.well_formed line (LineWord.Declares noun) words has d refl
+  module _ (keyword : DeclKeyword) (words : List (List ℕ)) (has : HasWords old.decls.version line (LineKeyword.Declares keyword) words) where
+    pub declares_cause : cause (lines d) line true ≡ text_cause (seen_so_far ds (length (bodies_of d))) (Some (Word.Declares keyword)) words
+    declares_cause = cause_behind d line read.seen_is ∙ clean_cause old.decls read.sound.well_formed line (LineKeyword.Declares keyword) words has d refl
 
-    named : word_named (first_word (words_of line)) ≡ Some (Word.Declares noun)
-    named = noun_word (first_word (words_of line)) noun (found_is_had old.decls.version (first_word (words_of line)) (LineWord.Declares noun) has.named).0
+    named : word_named (first_word (words_of line)) ≡ Some (Word.Declares keyword)
+    named = decl_keyword_word (first_word (words_of line)) keyword (found_is_had old.decls.version (first_word (words_of line)) (LineKeyword.Declares keyword) has.named).0
 
     declares : is_declaration_line line ≡ true
     declares = ap is_declaration_word named
 
-    by_itself : declaration_cause ds line ≡ text_cause (seen_so_far ds 0) (Some (Word.Declares noun)) words
+    by_itself : declaration_cause ds line ≡ text_cause (seen_so_far ds 0) (Some (Word.Declares keyword)) words
     by_itself = λ k. if is_declaration_word (named k) then text_cause (seen_so_far ds 0) (named k) (arguments (has.behind k)) else None
 
     module _ (none : length (bodies_of d) ≡ 0) where
       pub first_cause : cause (lines d) line true ≡ declaration_cause ds line
-      first_cause = declares_cause ∙ (λ k. text_cause (seen_so_far ds (none k)) (Some (Word.Declares noun)) words) ∙ sym by_itself
+      first_cause = declares_cause ∙ (λ k. text_cause (seen_so_far ds (none k)) (Some (Word.Declares keyword)) words) ∙ sym by_itself
 
       no_bodies : (o : Option UnendedState)
           → length (option_map_or (λ (x : List Instruction). d.ended ++ x ∷ []) (spelled_unended old.decls.places o) d.ended) ≡ 0

@@ -5,16 +5,16 @@ use Rattle.std.proofs.{Common.{refl, sym, ap, ◌∙◌, arith, append-nil, appe
 use Rattle.std.proofs.lemmas.{Grind.flat_map-append, List.reverse-reverse}
 use Rattle.std.proofs.lemmas.{List.Splits.{join_with_byte-slice_split, length-slice_split}, Option.none-some}
 use Rattle.std.specs.{List.{flat_map, join_with_byte}, Prelude.reverse, Result.result_err}
-use Rattle.race_records.specs.declared.{declarations.{DeclFault.DeclFault, TheConstants.MAX_PLACES}, nouns.Noun.Noun}
+use Rattle.race_records.specs.declared.{declarations.{DeclFault.DeclFault, TheConstants.MAX_PLACES}, decl_keywords.DeclKeyword.DeclKeyword}
 use Rattle.race_records.specs.{declared.version.Version.Version, Declarations.{Declaration, is_known, place_fault}}
 use Rattle.race_records.specs.{Declarations.{place_number, with_place}, Equality.declared, Name.is_place}
-use Rattle.race_records.specs.Nouns.{kind_of_noun}
+use Rattle.race_records.specs.DeclKeywords.{kind_of_decl_keyword}
 use Rattle.race_requests.specs.Sound.{has_ask}
 use Rattle.race_text.specs.{declared.{cause.TextCause.TextCause, form.Word.Word}, Declaring.with_declaration_in}
 use Rattle.race_text.specs.{Lines.{fault_after, first_fault}, Form.{word_named, first_word}, Text.ended}
 use Rattle.race_text.specs.{Words.{parts_of, words_of, has_bad_byte}, Fault.header_cause}
 use Rattle.race_text.proofs.{ParseLemmas.{none_step, none_end, no_bytes}, TraceLemmas.late_declaration}
-use Rattle.race_script.specs.declared.{form.{AskWord.AskWord, LineWord.LineWord}, program.TheConstants.MAX_STEPS}
+use Rattle.race_script.specs.declared.{form.{StepKeyword.StepKeyword, LineKeyword.LineKeyword}, program.TheConstants.MAX_STEPS}
 use Rattle.race_script.specs.{Bodies.{is_exit, after_ask}, Fault.{words_cause, has_no_room, may_follow, may_begin}}
 use Rattle.race_script.specs.Fault.{said_cause, asked_cause, cause, program_causes, text_fault, is_whole}
 use Rattle.race_script.specs.{Form.{line_word, line_word_in, on_nil, ask_fields, begin_fields}, Offers.select_words}
@@ -63,7 +63,7 @@ module _ (s : ReadState) (header_is : s.has_header ≡ true) (read : IsRead s) (
   said_fine : (said : Said) → IsSaidLine (declared s.decls) line said → said_cause d said ≡ None
   said_fine said is = sym (cause_behind d line read.seen_is ∙ is.cause_is d refl) ∙ none
 
-  with_begin : (words : List (List ℕ)) → HasWords s.decls.version line LineWord.Begins words → IsNext s line
+  with_begin : (words : List (List ℕ)) → HasWords s.decls.version line LineKeyword.Begins words → IsNext s line
   with_begin words has = by (words_cause ds begin_fields words) refl
     where
       begun : (g : ℕ) → IsSaidLine (declared s.decls) line (Begins g) → (b : Bool) → may_begin d g ≡ b
@@ -139,7 +139,7 @@ module _ (s : ReadState) (header_is : s.has_header ≡ true) (read : IsRead s) (
           goes u e (grind (arith, nat_tests, three.0)) (not_full s.decls.places i.place form three.1)
           three.2 (is_exit i.ask) refl (after_ask (reverse u.onces) i.ask) refl three.2
 
-  with_asks : (word : AskWord) (words : List (List ℕ)) → HasWords s.decls.version line (LineWord.Asks word) words → IsNext s line
+  with_asks : (word : StepKeyword) (words : List (List ℕ)) → HasWords s.decls.version line (LineKeyword.Asks word) words → IsNext s line
   with_asks word words has = by (words_cause ds (ask_fields (on_nil word words).0) (on_nil word words).1) refl
     where
       by : (o : Option TextCause) → words_cause ds (ask_fields (on_nil word words).0) (on_nil word words).1 ≡ o → IsNext s line
@@ -149,7 +149,7 @@ module _ (s : ReadState) (header_is : s.has_header ≡ true) (read : IsRead s) (
           let is = asks_line s.decls read.sound.well_formed line word words there.0 has there.1 in
           with_asked there.0 is is.fits.0 is.fits.1 is.fits.2
 
-  with_selects : (words : List (List ℕ)) → HasWords s.decls.version line LineWord.Selects words → IsNext s line
+  with_selects : (words : List (List ℕ)) → HasWords s.decls.version line LineKeyword.Selects words → IsNext s line
   with_selects words has = by (selected_in ds (select_words words)) refl
     where
       by : (r : Result Instruction TextCause) → selected_in ds (select_words words) ≡ r → IsNext s line
@@ -158,25 +158,25 @@ module _ (s : ReadState) (header_is : s.has_header ≡ true) (read : IsRead s) (
           let is = selects_line s.decls read.sound.well_formed line words i has e in
           with_asked i is is.fits.0 is.fits.1 is.fits.2
 
-  with_declared : (noun : Noun) (words : List (List ℕ)) → HasWords s.decls.version line (LineWord.Declares noun) words → IsNext s line
-  with_declared noun words has = by (length (bodies_of d)) refl
+  with_declared : (keyword : DeclKeyword) (words : List (List ℕ)) → HasWords s.decls.version line (LineKeyword.Declares keyword) words → IsNext s line
+  with_declared keyword words has = by (length (bodies_of d)) refl
     where
       by : (n : ℕ) → length (bodies_of d) ≡ n → IsNext s line
       by zero e =
           let new : ReadState = record { has_header = true; decls = with_declaration_in s.decls line; ended = s.ended; unended = s.unended } in
           record {
             next = new;
-            takes = declared_taken s read line noun words has e new
-                (sym (first_cause s read line noun words has e) ∙ none) refl refl refl refl;
+            takes = declared_taken s read line keyword words has e new
+                (sym (first_cause s read line keyword words has e) ∙ none) refl refl refl refl;
           }
-      by (suc n) e = absurd (late_declaration ds (length (bodies_of d)) (Word.Declares noun) (kind_of_noun noun) words refl (omega (arith, e))
-          (sym (declares_cause s read line noun words has) ∙ none))
+      by (suc n) e = absurd (late_declaration ds (length (bodies_of d)) (Word.Declares keyword) (kind_of_decl_keyword keyword) words refl (omega (arith, e))
+          (sym (declares_cause s read line keyword words has) ∙ none))
 
   with_line : IsNext s line
   with_line = clean (has_bad_byte line) refl
     where
       has_words : has_bad_byte line ≡ false → (first : List ℕ) (args : List (List ℕ)) → words_of line ≡ first ∷ args
-          → (word : LineWord) → line_word_in s.decls.version first ≡ Some word → HasWords s.decls.version line word args
+          → (word : LineKeyword) → line_word_in s.decls.version first ≡ Some word → HasWords s.decls.version line word args
       has_words fine first args e word h = record {
         clean = fine;
         named = ap (λ ws. line_word_in s.decls.version (first_word ws)) e ∙ h;
@@ -188,12 +188,12 @@ module _ (s : ReadState) (header_is : s.has_header ≡ true) (read : IsRead s) (
           (unknown_told s read line fine (ap (λ ws. line_word_in s.decls.version (first_word ws)) e ∙ h)))
 
       by_word : has_bad_byte line ≡ false → (first : List ℕ) (args : List (List ℕ))
-          → words_of line ≡ first ∷ args → (o : Option LineWord) → line_word_in s.decls.version first ≡ o → IsNext s line
+          → words_of line ≡ first ∷ args → (o : Option LineKeyword) → line_word_in s.decls.version first ≡ o → IsNext s line
       by_word fine first args e None h = unknown fine (first ∷ args) e h
-      by_word fine first args e (Some (LineWord.Declares noun)) h = with_declared noun args (has_words fine first args e (LineWord.Declares noun) h)
-      by_word fine first args e (Some LineWord.Begins) h = with_begin args (has_words fine first args e LineWord.Begins h)
-      by_word fine first args e (Some (LineWord.Asks word)) h = with_asks word args (has_words fine first args e (LineWord.Asks word) h)
-      by_word fine first args e (Some LineWord.Selects) h = with_selects args (has_words fine first args e LineWord.Selects h)
+      by_word fine first args e (Some (LineKeyword.Declares keyword)) h = with_declared keyword args (has_words fine first args e (LineKeyword.Declares keyword) h)
+      by_word fine first args e (Some LineKeyword.Begins) h = with_begin args (has_words fine first args e LineKeyword.Begins h)
+      by_word fine first args e (Some (LineKeyword.Asks word)) h = with_asks word args (has_words fine first args e (LineKeyword.Asks word) h)
+      by_word fine first args e (Some LineKeyword.Selects) h = with_selects args (has_words fine first args e LineKeyword.Selects h)
 
       words : has_bad_byte line ≡ false → (ws : List (List ℕ)) → words_of line ≡ ws → IsNext s line
       words fine [] e = unknown fine [] e (no_word s.decls.version)

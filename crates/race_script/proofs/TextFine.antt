@@ -14,7 +14,7 @@ use Rattle.race_text.specs.{declared.cause.{TextCause.TextCause, TextFault.TextF
 use Rattle.race_text.specs.{Text.declaration_line, Words.{parts_of, has_bad_byte, words_of}}
 use Rattle.race_text.specs.{Fault.{seen_so_far, header_cause, word_cause as text_cause}, Form.{first_word, arguments}}
 use Rattle.race_text.proofs.{ParseLemmas.{AreFine, fine_both, fine_lines, only_memory}, WordLemmas.both}
-use Rattle.race_text.proofs.{WordsAgain.parts_again, EventsAgain.place_again}
+use Rattle.race_text.proofs.{WordsAgain.operands_again, EventsAgain.place_again}
 use Rattle.race_text.proofs.{TextFine.{here, no_cause, within as within_all}, TextLaws.IsDeclarationLine}
 use Rattle.race_text.proofs.{TraceLemmas.clean_line, WordTable.word_of_version}
 use Rattle.race_script.specs.{declared.program.TheConstants.MAX_STEPS, Bodies.{is_exit, after_ask, onces_after, ends}}
@@ -23,7 +23,7 @@ use Rattle.race_script.specs.{Fault.{is_whole, has_no_room, may_follow, word_cau
 use Rattle.race_script.specs.Program.{Draft, ProgramState, IsProgram, draft_of, declared_by, with_place, places_of}
 use Rattle.race_script.specs.Program.{ask_fits, asks_of, request_fits, is_body_of, instruction, spelled, asked_by}
 use Rattle.race_script.specs.{Reading.{with_said, seen}, Text.{header, Said, Asks, said_line, saids, lines, draft_text}}
-use Rattle.race_script.{specs.{Text.{program_text, IsProgramText}, Form.line_word_in}, proofs.AskTable.noun_word_in}
+use Rattle.race_script.{specs.{Text.{program_text, IsProgramText}, Form.line_word_in}, proofs.AskTable.decl_keyword_word_in}
 use Rattle.race_script.proofs.ReadLemmas.{declaration_lines, header_said, nothing_but, seen_by_lines, seen_declared}
 use Rattle.race_script.proofs.ReadLemmas.{lines_declared, end_behind}
 use Rattle.race_script.proofs.{TakingLemmas.{onces_more, places_grown}, BodyLemmas.exit_is_last}
@@ -221,7 +221,7 @@ module _ (decls : DeclsState) (holds : IsWellFormed decls) where
       let text = sym (clean_line decls.version (seen_so_far before 0) (declaration_line d) line.clean) ∙ no_cause decls holds before after d is decls.version in
       cause_behind (nothing_but decls.version before) (declaration_line d) (seen_by_lines decls.version before (lines_of_prefix before (d ∷ after) is))
       ∙ ap (λ b. if b then Some TextCause.BadByte else word_cause (nothing_but decls.version before) (line_word_in decls.version first) args) line.clean
-      ∙ ap (λ w. word_cause (nothing_but decls.version before) w args) (noun_word_in decls.version first _ line.named)
+      ∙ ap (λ w. word_cause (nothing_but decls.version before) w args) (decl_keyword_word_in decls.version first _ line.named)
       ∙ ap (λ w. text_cause (seen_so_far before 0) w args) (sym (word_of_version decls.version first _ line.named refl))
       ∙ text
 
@@ -320,7 +320,7 @@ module _ (p : ProgramState) (is : IsProgram p) where
 
   pub lines_again : parts_of (program_text p) ≡ lines (draft_of p) ++ [] ∷ []
   unfolding draft_text
-  lines_again = parts_again (lines (draft_of p)) all_clean
+  lines_again = operands_again (lines (draft_of p)) all_clean
 
   pub text_has_no_fault : text_fault (program_text p) ≡ None
   unfolding first_fault

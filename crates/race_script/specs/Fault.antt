@@ -7,7 +7,7 @@ use Rattle.race_requests.specs.declared.request.Ask.{Ask}
 use Rattle.race_text.specs.declared.{cause.{TextCause.TextCause, TextFault.TextFault}, form.{Field.Field, Word.Word}}
 use Rattle.race_text.specs.{Fault.{or_else, seen_so_far, fields_cause, header_cause}, Form.{first_word, arguments}}
 use Rattle.race_text.specs.{Lines.{Causes, first_fault}, Words.{words_of, has_bad_byte}}
-use Rattle.race_script.specs.declared.{form.LineWord.LineWord, program.TheConstants.MAX_STEPS}
+use Rattle.race_script.specs.declared.{form.LineKeyword.LineKeyword, program.TheConstants.MAX_STEPS}
 use Rattle.race_script.specs.{Bodies.{is_exit, after_ask, onces_after}, Form.{line_word_in, AskedWords, on_nil}}
 use Rattle.race_script.specs.{Form.{ask_fields, begin_fields}, Offers.select_words, Program.{Instruction, Draft}}
 use Rattle.race_script.specs.{Program.{asked_by, bodies_of, places_of}, Reading.{version_said, selected_in, said_by}}
@@ -53,15 +53,15 @@ asks_cause d asked =
     or_else (words_cause d.declarations (ask_fields asked.0) asked.1) (option_and_then (said_cause d) (asks_by d.declarations asked))
 
 -- the least cause of a line by its words. A declaration is late where a body has begun
-abbrev pub word_cause : Draft → Option LineWord → List (List ℕ) → Option TextCause
+abbrev pub word_cause : Draft → Option LineKeyword → List (List ℕ) → Option TextCause
 word_cause d None words = Some TextCause.UnknownWord
-word_cause d (Some (LineWord.Declares noun)) words =
-    text.word_cause (seen_so_far d.declarations (length (bodies_of d))) (Some (Word.Declares noun)) words
-word_cause d (Some LineWord.Begins) words =
-    or_else (words_cause d.declarations begin_fields words) (option_and_then (said_cause d) (said_by d.declarations (Some LineWord.Begins) words))
-word_cause d (Some (LineWord.Asks word)) words = asks_cause d (on_nil word words)
-word_cause d (Some LineWord.Selects) words =
-    or_else (result_err (selected_in d.declarations (select_words words))) (option_and_then (said_cause d) (said_by d.declarations (Some LineWord.Selects) words))
+word_cause d (Some (LineKeyword.Declares keyword)) words =
+    text.word_cause (seen_so_far d.declarations (length (bodies_of d))) (Some (Word.Declares keyword)) words
+word_cause d (Some LineKeyword.Begins) words =
+    or_else (words_cause d.declarations begin_fields words) (option_and_then (said_cause d) (said_by d.declarations (Some LineKeyword.Begins) words))
+word_cause d (Some (LineKeyword.Asks word)) words = asks_cause d (on_nil word words)
+word_cause d (Some LineKeyword.Selects) words =
+    or_else (result_err (selected_in d.declarations (select_words words))) (option_and_then (said_cause d) (said_by d.declarations (Some LineKeyword.Selects) words))
 
 -- the least cause of a line behind the first
 unfoldable pub line_cause : Draft → List ℕ → Option TextCause

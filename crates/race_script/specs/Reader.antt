@@ -4,7 +4,7 @@ use Rattle.std.specs.{Prelude.{reverse, Option, Some, None, IfSome}, List.list_a
 use Rattle.race_records.specs.declared.{kind.Kind.Kind, version.Version.Version}
 use Rattle.race_records.specs.Declarations.{DeclsState, IsWellFormed, count_of}
 use Rattle.race_requests.specs.declared.request.Request.{Request}
-use Rattle.race_script.specs.declared.{program.TheConstants.MAX_STEPS, form.LineWord.LineWord}
+use Rattle.race_script.specs.declared.{program.TheConstants.MAX_STEPS, form.LineKeyword.LineKeyword}
 use Rattle.race_script.specs.{Bodies.{is_exit, after_ask, onces_after}, Form.line_word_in, Fault.cause}
 use Rattle.race_script.specs.{Fault.{program_causes, said_cause, may_follow}, Program.{Instruction, Draft}}
 use Rattle.race_script.specs.Program.{ProgramState, asks_of, request_fits, is_body_of, spelled, bodies_of, places_of}
@@ -86,7 +86,7 @@ abbrev pub program_read : ReadState → ProgramState
 program_read s = record { decls = s.decls; bodies = s.ended }
 
 -- in a text of the version the line has these words behind one of this kind, and no bad byte
-pub record HasWords (version : Version) (line : List ℕ) (word : LineWord) (words : List (List ℕ)) : Type 0 where
+pub record HasWords (version : Version) (line : List ℕ) (word : LineKeyword) (words : List (List ℕ)) : Type 0 where
   pub clean : has_bad_byte line ≡ false
   pub named : line_word_in version (first_word (words_of line)) ≡ Some word
   pub behind : words_of line ≡ first_word (words_of line) ∷ words

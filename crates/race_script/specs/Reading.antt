@@ -2,13 +2,13 @@
 use Rattle.std.specs.Prelude.{ℕ, List, [], ◌∷◌, ◌++◌, fold, unwrap_or, Option, Some, None, Result, Ok, Err}
 use Rattle.std.specs.{Prelude.if◌then◌else◌, Borrow.Bor, List.filter_map, Option.{option_and_then, option_map}}
 use Rattle.std.specs.{Result.result_ok, Str.bytes_eq}
-use Rattle.race_records.specs.declared.{kind.Kind.Kind, parts.PartKind.PartKind, version.Version.Version}
+use Rattle.race_records.specs.declared.{kind.Kind.Kind, operands.OperandKind.OperandKind, version.Version.Version}
 use Rattle.race_records.specs.{Declarations.Declaration, Equality.Declared}
 use Rattle.race_requests.specs.declared.request.Ask.{Ask}
 use Rattle.race_text.specs.{declared.cause.TextCause.TextCause, Fault.declaration_in, Form.{first_word, arguments}}
-use Rattle.race_text.specs.{Least.both_say, Meaning.{place_in, part_in}, Reading.{ReadParts, parts_on, last_place}}
+use Rattle.race_text.specs.{Least.both_say, Meaning.{place_in, operand_in}, Reading.{ReadOperands, operands_on, last_place}}
 use Rattle.race_text.specs.{Reading.goroutine_of, Words.words_of}
-use Rattle.race_script.specs.{declared.form.{AskWord.AskWord, LineWord.LineWord}, Bodies.is_exit, Form.line_word_in}
+use Rattle.race_script.specs.{declared.form.{StepKeyword.StepKeyword, LineKeyword.LineKeyword}, Bodies.is_exit, Form.line_word_in}
 use Rattle.race_script.specs.Form.{AskedWords, on_nil, ask_kinds, ask_by}
 use Rattle.race_script.specs.{Offers.{SelectWords, select_words, select_in}, Program.{Instruction, Draft}, Text.header}
 use Rattle.race_script.specs.Text.{Said, Begins, Asks}
@@ -36,13 +36,13 @@ asked_read asked = asked_at asked.0 asked.1.now
 abbrev pub before_place : List (List ℕ) → Ask → Option Instruction
 before_place rest ask = option_map (asked_at ask) (last_place rest)
 
--- what is asked by the parts that were read, and the words behind them
-abbrev pub asked_by_parts : AskWord → ReadParts → Option Instruction
-asked_by_parts word read = option_and_then (before_place read.1) (ask_by word read.0)
+-- what is asked by the operands that were read, and the words behind them
+abbrev pub asked_by_operands : StepKeyword → ReadOperands → Option Instruction
+asked_by_operands word read = option_and_then (before_place read.1) (ask_by word read.0)
 
 -- what the words behind this one ask
-abbrev pub asked_in : List Declaration → AskWord → List (List ℕ) → Option Instruction
-asked_in ds word words = option_and_then (asked_by_parts word) (parts_on ds [] (ask_kinds word) words)
+abbrev pub asked_in : List Declaration → StepKeyword → List (List ℕ) → Option Instruction
+asked_in ds word words = option_and_then (asked_by_operands word) (operands_on ds [] (ask_kinds word) words)
 
 -- what the words behind `select` ask
 abbrev pub selected_in : List Declaration → Option SelectWords → Result Instruction TextCause
@@ -51,7 +51,7 @@ selected_in ds (Some w) = both_say (λ ask place. Ok (asked_at ask place)) (sele
 
 -- the goroutine that the one word names
 abbrev pub begun_in : List Declaration → List (List ℕ) → Option ℕ
-begun_in ds (w ∷ []) = option_and_then goroutine_of (result_ok (part_in ds (PartKind.Object Kind.Goroutine) w))
+begun_in ds (w ∷ []) = option_and_then goroutine_of (result_ok (operand_in ds (OperandKind.Object Kind.Goroutine) w))
 begun_in ds _ = None
 
 -- what words that begin with an ask's say
@@ -59,10 +59,10 @@ abbrev pub asks_by : List Declaration → AskedWords → Option Said
 asks_by ds asked = option_map Asks (asked_in ds asked.0 asked.1)
 
 -- what the words behind a first word say
-abbrev pub said_by : List Declaration → Option LineWord → List (List ℕ) → Option Said
-said_by ds (Some LineWord.Begins) words = option_map Begins (begun_in ds words)
-said_by ds (Some (LineWord.Asks word)) words = asks_by ds (on_nil word words)
-said_by ds (Some LineWord.Selects) words = option_map Asks (result_ok (selected_in ds (select_words words)))
+abbrev pub said_by : List Declaration → Option LineKeyword → List (List ℕ) → Option Said
+said_by ds (Some LineKeyword.Begins) words = option_map Begins (begun_in ds words)
+said_by ds (Some (LineKeyword.Asks word)) words = asks_by ds (on_nil word words)
+said_by ds (Some LineKeyword.Selects) words = option_map Asks (result_ok (selected_in ds (select_words words)))
 said_by ds _ words = None
 
 -- what a line says of the bodies, in a text of this version with these declarations

@@ -6,12 +6,12 @@ ghost use Rattle.race_script.specs.Fault as fault;
 ghost use Rattle.race_script.specs.Form as form;
 ghost use Rattle.race_script.specs.Reading as spec;
 
-use crate::form::{AskWord, ask_kinds};
+use crate::form::{StepKeyword, ask_kinds};
 use race_hub::Ask;
-use race_records::{Decls, Kind, Part, PartKind, object_alone, object_value};
+use race_records::{Decls, Kind, Operand, OperandKind, object_alone, object_value};
 use race_text::{
-    Field, TextCause, cut_at, fields_cause, goroutine_of, has_count, last_place, next_part,
-    next_parts,
+    Field, TextCause, cut_at, fields_cause, goroutine_of, has_count, last_place, next_operand,
+    next_operands,
 };
 use std::alloc::Allocator;
 
@@ -32,15 +32,15 @@ pub(crate) fn words_cause<A: Allocator>(
 // What the words behind this one ask, and the place.
 pub(crate) fn asked_in<'a, A: Allocator>(
     decls: &Decls<A>,
-    word: AskWord,
+    word: StepKeyword,
     rest: Option<&'a [u8]>,
 ) -> Option<(Ask, &'a [u8])>
     requires { IsWellFormed decls.now }
     ensures { option_map spec.asked_read result
         ≡ spec.asked_in decls.now.declarations word (parts_left 32 rest.entry) }
 {
-    let (parts, rest) = next_parts(decls, ask_kinds(word), rest)?;
-    let ask = ask_by(word, parts.as_slice())?;
+    let (operands, rest) = next_operands(decls, ask_kinds(word), rest)?;
+    let ask = ask_by(word, operands.as_slice())?;
     let place = last_place(rest)?;
     Some((ask, place))
 }
@@ -53,49 +53,49 @@ pub(crate) fn begun_in<A: Allocator>(decls: &Decls<A>, rest: Option<&[u8]>) -> O
     if !has_count(rest, 1) {
         return None;
     }
-    let (part, _) = next_part(decls, PartKind::Object(Kind::Goroutine), rest)?;
-    goroutine_of(part)
+    let (operand, _) = next_operand(decls, OperandKind::Object(Kind::Goroutine), rest)?;
+    goroutine_of(operand)
 }
 
-/// What is asked by the word and its parts, where anything is.
-pub fn ask_by(word: AskWord, parts: &[Part]) -> Option<Ask>
-    ensures { result ≡ form.ask_by word parts.now }
+/// What is asked by the word and its operands, where anything is.
+pub fn ask_by(word: StepKeyword, operands: &[Operand]) -> Option<Ask>
+    ensures { result ≡ form.ask_by word operands.now }
 {
     match word {
-        AskWord::Go => object_alone(Kind::Goroutine, parts).map(Ask::Go),
-        AskWord::Exit => if_none(Ask::Exit, parts),
-        AskWord::Read => object_alone(Kind::Var, parts).map(Ask::Read),
-        AskWord::Write => object_value(Kind::Var, parts).map(|(x, v)| Ask::Write(x, v)),
-        AskWord::Send => object_value(Kind::Chan, parts).map(|(c, v)| Ask::Send(Some(c), v)),
-        AskWord::SendNil => value_alone(parts).map(|v| Ask::Send(None, v)),
-        AskWord::Recv => object_alone(Kind::Chan, parts).map(|c| Ask::Recv(Some(c))),
-        AskWord::RecvNil => if_none(Ask::Recv(None), parts),
-        AskWord::Close => object_alone(Kind::Chan, parts).map(|c| Ask::Close(Some(c))),
-        AskWord::CloseNil => if_none(Ask::Close(None), parts),
-        AskWord::Lock => object_alone(Kind::Lock, parts).map(Ask::Lock),
-        AskWord::Unlock => object_alone(Kind::Lock, parts).map(Ask::Unlock),
-        AskWord::RLock => object_alone(Kind::Lock, parts).map(Ask::RLock),
-        AskWord::RUnlock => object_alone(Kind::Lock, parts).map(Ask::RUnlock),
-        AskWord::TryLock => object_alone(Kind::Lock, parts).map(Ask::TryLock),
-        AskWord::TryRLock => object_alone(Kind::Lock, parts).map(Ask::TryRLock),
-        AskWord::Do => object_alone(Kind::Once, parts).map(Ask::Do),
-        AskWord::EndDo => object_alone(Kind::Once, parts).map(Ask::EndDo),
+        StepKeyword::Go => object_alone(Kind::Goroutine, operands).map(Ask::Go),
+        StepKeyword::Exit => if_none(Ask::Exit, operands),
+        StepKeyword::Read => object_alone(Kind::Var, operands).map(Ask::Read),
+        StepKeyword::Write => object_value(Kind::Var, operands).map(|(x, v)| Ask::Write(x, v)),
+        StepKeyword::Send => object_value(Kind::Chan, operands).map(|(c, v)| Ask::Send(Some(c), v)),
+        StepKeyword::SendNil => value_alone(operands).map(|v| Ask::Send(None, v)),
+        StepKeyword::Recv => object_alone(Kind::Chan, operands).map(|c| Ask::Recv(Some(c))),
+        StepKeyword::RecvNil => if_none(Ask::Recv(None), operands),
+        StepKeyword::Close => object_alone(Kind::Chan, operands).map(|c| Ask::Close(Some(c))),
+        StepKeyword::CloseNil => if_none(Ask::Close(None), operands),
+        StepKeyword::Lock => object_alone(Kind::Lock, operands).map(Ask::Lock),
+        StepKeyword::Unlock => object_alone(Kind::Lock, operands).map(Ask::Unlock),
+        StepKeyword::RLock => object_alone(Kind::Lock, operands).map(Ask::RLock),
+        StepKeyword::RUnlock => object_alone(Kind::Lock, operands).map(Ask::RUnlock),
+        StepKeyword::TryLock => object_alone(Kind::Lock, operands).map(Ask::TryLock),
+        StepKeyword::TryRLock => object_alone(Kind::Lock, operands).map(Ask::TryRLock),
+        StepKeyword::Do => object_alone(Kind::Once, operands).map(Ask::Do),
+        StepKeyword::EndDo => object_alone(Kind::Once, operands).map(Ask::EndDo),
     }
 }
 
-fn value_alone(parts: &[Part]) -> Option<u64>
-    ensures { result ≡ form.value_alone parts.now }
+fn value_alone(operands: &[Operand]) -> Option<u64>
+    ensures { result ≡ form.value_alone operands.now }
 {
-    match parts {
-        [Part::Value(value)] => Some(*value),
+    match operands {
+        [Operand::Value(value)] => Some(*value),
         _ => None,
     }
 }
 
-fn if_none(ask: Ask, parts: &[Part]) -> Option<Ask>
-    ensures { result ≡ form.if_none ask parts.now }
+fn if_none(ask: Ask, operands: &[Operand]) -> Option<Ask>
+    ensures { result ≡ form.if_none ask operands.now }
 {
-    match parts {
+    match operands {
         [] => Some(ask),
         _ => None,
     }

@@ -177,8 +177,8 @@ fn made_by_select(offers: &Offers, answer: Answer) -> Option<Op>
     ensures { result ≡ course.made_by_select offers.now answer }
 {
     match answer {
-        Answer::Chosen(way, got) => if (way as usize) < offers.len() {
-            made_by_offer(offers.get(way as usize), got)
+        Answer::Chosen(branch, got) => if (branch as usize) < offers.len() {
+            made_by_offer(offers.get(branch as usize), got)
         } else {
             None
         },

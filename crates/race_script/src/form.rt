@@ -4,12 +4,12 @@ ghost use Rattle.race_text.specs.Words.{parts_left};
 ghost use Rattle.race_script.specs.Form as spec;
 
 use arrayvec::ArrayVec;
-use race_records::{Kind, Noun, PartKind, Verb, Version};
+use race_records::{DeclKeyword, Kind, OpKeyword, OperandKind, Version};
 use race_text::{Field, Word, cut_at, word_named};
 
 /// The words of asks. What is asked of a nil channel has words of its own.
 #[derive(Clone, Copy, PartialEq, Eq)]
-pub enum AskWord {
+pub enum StepKeyword {
     /// A goroutine is started.
     Go,
     /// The goroutine returns.
@@ -50,40 +50,40 @@ pub enum AskWord {
 
 /// What the first word of a line says that the line is.
 #[derive(Clone, Copy, PartialEq, Eq)]
-pub enum LineWord {
+pub enum LineKeyword {
     /// An object is declared.
-    Declares(Noun),
+    Declares(DeclKeyword),
     /// The body of a goroutine begins.
     Begins,
     /// The goroutine asks.
-    Asks(AskWord),
+    Asks(StepKeyword),
     /// The goroutine asks by a select.
     Selects,
 }
 
 /// The words that a line of a body may begin with, of all versions.
-pub const BODY_WORDS: [(&[u8], LineWord); 17] = [
-    (b"body", LineWord::Begins),
-    (b"go", LineWord::Asks(AskWord::Go)),
-    (b"exit", LineWord::Asks(AskWord::Exit)),
-    (b"read", LineWord::Asks(AskWord::Read)),
-    (b"write", LineWord::Asks(AskWord::Write)),
-    (b"send", LineWord::Asks(AskWord::Send)),
-    (b"recv", LineWord::Asks(AskWord::Recv)),
-    (b"close", LineWord::Asks(AskWord::Close)),
-    (b"select", LineWord::Selects),
-    (b"lock", LineWord::Asks(AskWord::Lock)),
-    (b"unlock", LineWord::Asks(AskWord::Unlock)),
-    (b"rlock", LineWord::Asks(AskWord::RLock)),
-    (b"runlock", LineWord::Asks(AskWord::RUnlock)),
-    (b"trylock", LineWord::Asks(AskWord::TryLock)),
-    (b"tryrlock", LineWord::Asks(AskWord::TryRLock)),
-    (b"do", LineWord::Asks(AskWord::Do)),
-    (b"enddo", LineWord::Asks(AskWord::EndDo)),
+pub const BODY_WORDS: [(&[u8], LineKeyword); 17] = [
+    (b"body", LineKeyword::Begins),
+    (b"go", LineKeyword::Asks(StepKeyword::Go)),
+    (b"exit", LineKeyword::Asks(StepKeyword::Exit)),
+    (b"read", LineKeyword::Asks(StepKeyword::Read)),
+    (b"write", LineKeyword::Asks(StepKeyword::Write)),
+    (b"send", LineKeyword::Asks(StepKeyword::Send)),
+    (b"recv", LineKeyword::Asks(StepKeyword::Recv)),
+    (b"close", LineKeyword::Asks(StepKeyword::Close)),
+    (b"select", LineKeyword::Selects),
+    (b"lock", LineKeyword::Asks(StepKeyword::Lock)),
+    (b"unlock", LineKeyword::Asks(StepKeyword::Unlock)),
+    (b"rlock", LineKeyword::Asks(StepKeyword::RLock)),
+    (b"runlock", LineKeyword::Asks(StepKeyword::RUnlock)),
+    (b"trylock", LineKeyword::Asks(StepKeyword::TryLock)),
+    (b"tryrlock", LineKeyword::Asks(StepKeyword::TryRLock)),
+    (b"do", LineKeyword::Asks(StepKeyword::Do)),
+    (b"enddo", LineKeyword::Asks(StepKeyword::EndDo)),
 ];
 
 // What the first word of a line says that the line is in a text of the version.
-pub(crate) fn line_word_in(version: Version, word: &[u8]) -> Option<LineWord>
+pub(crate) fn line_word_in(version: Version, word: &[u8]) -> Option<LineKeyword>
     ensures { result ≡ spec.line_word_in version word.now }
 {
     match line_word(word) {
@@ -99,28 +99,28 @@ pub(crate) fn line_word_in(version: Version, word: &[u8]) -> Option<LineWord>
 }
 
 // Whether the version has lines of this kind.
-fn has_line_word(version: Version, word: LineWord) -> bool
+fn has_line_word(version: Version, word: LineKeyword) -> bool
     ensures { result ≡ spec.has_line_word version word }
 {
     match word {
-        LineWord::Asks(AskWord::TryLock) => version.has(Verb::TryLock),
-        LineWord::Asks(AskWord::TryRLock) => version.has(Verb::TryRLock),
+        LineKeyword::Asks(StepKeyword::TryLock) => version.has(OpKeyword::TryLock),
+        LineKeyword::Asks(StepKeyword::TryRLock) => version.has(OpKeyword::TryRLock),
         _ => true,
     }
 }
 
 // What the first word of a line says that the line is in some version.
 #[tactic(auto, unfolding(crate::specs::Form::line_word))]
-fn line_word(word: &[u8]) -> Option<LineWord>
+fn line_word(word: &[u8]) -> Option<LineKeyword>
     ensures { result ≡ spec.line_word word.now }
 {
     match word_named(word) {
-        Some(Word::Declares(noun)) => Some(LineWord::Declares(noun)),
+        Some(Word::Declares(keyword)) => Some(LineKeyword::Declares(keyword)),
         _ => lookup(&BODY_WORDS, word),
     }
 }
 
-fn lookup(mut table: &[(&[u8], LineWord)], word: &[u8]) -> Option<LineWord>
+fn lookup(mut table: &[(&[u8], LineKeyword)], word: &[u8]) -> Option<LineKeyword>
     ensures { result ≡ spec.lookup (map (λ entry. (entry.0.now, entry.1)) table.entry.now) word.now }
 {
     while let [entry, others @ ..] = table {
@@ -132,19 +132,19 @@ fn lookup(mut table: &[(&[u8], LineWord)], word: &[u8]) -> Option<LineWord>
     None
 }
 
-fn word_on_nil(word: AskWord) -> Option<AskWord>
+fn word_on_nil(word: StepKeyword) -> Option<StepKeyword>
     ensures { result ≡ spec.word_on_nil word }
 {
     match word {
-        AskWord::Send => Some(AskWord::SendNil),
-        AskWord::Recv => Some(AskWord::RecvNil),
-        AskWord::Close => Some(AskWord::CloseNil),
+        StepKeyword::Send => Some(StepKeyword::SendNil),
+        StepKeyword::Recv => Some(StepKeyword::RecvNil),
+        StepKeyword::Close => Some(StepKeyword::CloseNil),
         _ => None,
     }
 }
 
 // The word of what is asked, and the words behind it: a `nil` is taken up in the word.
-pub(crate) fn on_nil(word: AskWord, rest: Option<&[u8]>) -> (AskWord, Option<&[u8]>)
+pub(crate) fn on_nil(word: StepKeyword, rest: Option<&[u8]>) -> (StepKeyword, Option<&[u8]>)
     ensures { (result.0, parts_left 32 result.1) ≡ spec.on_nil word (parts_left 32 rest.entry) }
 {
     let Some(bytes) = rest else {
@@ -159,61 +159,61 @@ pub(crate) fn on_nil(word: AskWord, rest: Option<&[u8]>) -> (AskWord, Option<&[u
     (word, rest)
 }
 
-static NOTHING: [PartKind; 0] = [];
+static NOTHING: [OperandKind; 0] = [];
 
-static GOROUTINE: [PartKind; 1] = [PartKind::Object(Kind::Goroutine)];
+static GOROUTINE: [OperandKind; 1] = [OperandKind::Object(Kind::Goroutine)];
 
-static VAR: [PartKind; 1] = [PartKind::Object(Kind::Var)];
+static VAR: [OperandKind; 1] = [OperandKind::Object(Kind::Var)];
 
-static VAR_VALUE: [PartKind; 2] = [PartKind::Object(Kind::Var), PartKind::Value];
+static VAR_VALUE: [OperandKind; 2] = [OperandKind::Object(Kind::Var), OperandKind::Value];
 
-static CHAN: [PartKind; 1] = [PartKind::Object(Kind::Chan)];
+static CHAN: [OperandKind; 1] = [OperandKind::Object(Kind::Chan)];
 
-static CHAN_VALUE: [PartKind; 2] = [PartKind::Object(Kind::Chan), PartKind::Value];
+static CHAN_VALUE: [OperandKind; 2] = [OperandKind::Object(Kind::Chan), OperandKind::Value];
 
-static VALUE: [PartKind; 1] = [PartKind::Value];
+static VALUE: [OperandKind; 1] = [OperandKind::Value];
 
-static LOCK: [PartKind; 1] = [PartKind::Object(Kind::Lock)];
+static LOCK: [OperandKind; 1] = [OperandKind::Object(Kind::Lock)];
 
-static RW_MUTEX: [PartKind; 1] = [PartKind::RwMutex];
+static RW_MUTEX: [OperandKind; 1] = [OperandKind::RwMutex];
 
-static ONCE: [PartKind; 1] = [PartKind::Object(Kind::Once)];
+static ONCE: [OperandKind; 1] = [OperandKind::Object(Kind::Once)];
 
-/// What the parts behind the word are.
-pub fn ask_kinds(word: AskWord) -> &'static [PartKind]
+/// What the operands behind the word are.
+pub fn ask_kinds(word: StepKeyword) -> &'static [OperandKind]
     ensures kinds { result.now ≡ spec.ask_kinds word }
     ensures few { length result.now ≤ 2 }
 {
     match word {
-        AskWord::Go => &GOROUTINE,
-        AskWord::Exit => &NOTHING,
-        AskWord::Read => &VAR,
-        AskWord::Write => &VAR_VALUE,
-        AskWord::Send => &CHAN_VALUE,
-        AskWord::SendNil => &VALUE,
-        AskWord::Recv => &CHAN,
-        AskWord::RecvNil => &NOTHING,
-        AskWord::Close => &CHAN,
-        AskWord::CloseNil => &NOTHING,
-        AskWord::Lock => &LOCK,
-        AskWord::Unlock => &LOCK,
-        AskWord::RLock => &RW_MUTEX,
-        AskWord::RUnlock => &RW_MUTEX,
-        AskWord::TryLock => &LOCK,
-        AskWord::TryRLock => &RW_MUTEX,
-        AskWord::Do => &ONCE,
-        AskWord::EndDo => &ONCE,
+        StepKeyword::Go => &GOROUTINE,
+        StepKeyword::Exit => &NOTHING,
+        StepKeyword::Read => &VAR,
+        StepKeyword::Write => &VAR_VALUE,
+        StepKeyword::Send => &CHAN_VALUE,
+        StepKeyword::SendNil => &VALUE,
+        StepKeyword::Recv => &CHAN,
+        StepKeyword::RecvNil => &NOTHING,
+        StepKeyword::Close => &CHAN,
+        StepKeyword::CloseNil => &NOTHING,
+        StepKeyword::Lock => &LOCK,
+        StepKeyword::Unlock => &LOCK,
+        StepKeyword::RLock => &RW_MUTEX,
+        StepKeyword::RUnlock => &RW_MUTEX,
+        StepKeyword::TryLock => &LOCK,
+        StepKeyword::TryRLock => &RW_MUTEX,
+        StepKeyword::Do => &ONCE,
+        StepKeyword::EndDo => &ONCE,
     }
 }
 
-// What stands behind the word: its parts, and a place.
-pub(crate) fn ask_fields(word: AskWord) -> ArrayVec<Field, 3>
+// What stands behind the word: its operands, and a place.
+pub(crate) fn ask_fields(word: StepKeyword) -> ArrayVec<Field, 3>
     ensures { result.items ≡ spec.ask_fields word }
 {
     let mut fields = ArrayVec::new();
     let kinds = ask_kinds(word);
     for kind in kinds {
-        fields.push(Field::Part(*kind));
+        fields.push(Field::Operand(*kind));
     }
     fields.push(Field::Place);
     fields

@@ -19,7 +19,7 @@ mod script;
 pub use asks::ask_by;
 pub use certificate::{NotARun, certify};
 #[doc(hidden)]
-pub use form::{AskWord, BODY_WORDS, LineWord, ask_kinds};
+pub use form::{BODY_WORDS, LineKeyword, StepKeyword, ask_kinds};
 #[doc(hidden)]
 pub use offers::SelectWords;
 pub use parse::parse_program;

@@ -13,13 +13,13 @@ ghost use Rattle.race_script.specs.Reading as reading;
 ghost use Rattle.race_script.specs.Reader as spec;
 
 use crate::asks::{asked_in, begun_in, words_cause};
-use crate::form::{AskWord, LineWord, ask_fields, line_word_in, on_nil};
+use crate::form::{LineKeyword, StepKeyword, ask_fields, line_word_in, on_nil};
 use crate::header::version_said;
 use crate::offers::{select_words, selected_in};
 use crate::program::{MAX_STEPS, Program};
 use crate::script::is_exit;
 use race_hub::{Ask, Request};
-use race_records::{DeclFault, Decls, Kind, Noun, PartKind, Version, as_text};
+use race_records::{DeclFault, DeclKeyword, Decls, Kind, OperandKind, Version, as_text};
 use race_requests::RequestList;
 use race_text::{
     Field, Grammar, TextCause, Word, cause_of, cut_at, has_bad_byte, read_declaration, word_cause,
@@ -40,6 +40,8 @@ pub struct Unended<A: Allocator> {
 /// What was read so far.
 pub struct Reader<A: Allocator> {
     alloc: A,
+    // The key for the hashes of names and places.
+    key: u64,
     has_header: bool,
     decls: Decls<A>,
     ended: Vec<RequestList<A>, A>,
@@ -50,6 +52,7 @@ impl<A: Allocator> Drop for Reader<A> {
     fn drop(self) {
         let Reader {
             alloc: _,
+            key: _,
             has_header: _,
             decls: _,
             ended: _,
@@ -73,7 +76,7 @@ impl<A: Allocator> Model for Reader<A> {
 }
 
 // What stands behind `body`.
-static BEGIN_FIELDS: [Field; 1] = [Field::Part(PartKind::Object(Kind::Goroutine))];
+static BEGIN_FIELDS: [Field; 1] = [Field::Operand(OperandKind::Object(Kind::Goroutine))];
 
 impl<A: Allocator + Copy> Grammar for Reader<A> {
     ghost use Rattle.race_script.specs.{Fault.program_causes, Reader.StandsFor, Text.IsTextOf};
@@ -105,14 +108,22 @@ impl<A: Allocator + Copy> Grammar for Reader<A> {
 }
 
 impl<A: Allocator + Copy> Reader<A> {
-    /// Nothing is read yet. Takes no memory.
+    /// Nothing is read yet, and the key is 0. Takes no memory.
     pub fn new(alloc: A) -> Reader<A>
+        ensures { spec.StandsFor result [] }
+    {
+        Reader::keyed(alloc, 0)
+    }
+
+    /// Nothing is read yet. Names and places are hashed by the key. Takes no memory.
+    pub fn keyed(alloc: A, key: u64) -> Reader<A>
         ensures { spec.StandsFor result [] }
     {
         Reader {
             alloc,
+            key,
             has_header: false,
-            decls: Decls::new(alloc),
+            decls: Decls::keyed(alloc, Version::One, key),
             ended: Vec::new(alloc),
             unended: None,
         }
@@ -192,6 +203,7 @@ impl<A: Allocator + Copy> Reader<A> {
     {
         let Reader {
             alloc: _,
+            key: _,
             has_header: _,
             decls,
             ended,
@@ -216,7 +228,7 @@ impl<A: Allocator + Copy> Reader<A> {
                 Ok(())
             }
             Some(Version::Two) => {
-                self.decls = Decls::new_version2(self.alloc);
+                self.decls = Decls::keyed(self.alloc, Version::Two, self.key);
                 self.has_header = true;
                 Ok(())
             }
@@ -226,7 +238,7 @@ impl<A: Allocator + Copy> Reader<A> {
     // Takes a line of this first word.
     fn take_words(
         &mut self,
-        word: LineWord,
+        word: LineKeyword,
         line: &[u8],
         rest: Option<&[u8]>,
     ) -> Result<(), TextCause>
@@ -236,10 +248,10 @@ impl<A: Allocator + Copy> Reader<A> {
         ensures taken { spec.TakesOrTells self.old line.now result self.new }
     {
         match word {
-            LineWord::Declares(noun) => self.take_declaration(noun, line, rest),
-            LineWord::Begins => self.take_begin(line, rest),
-            LineWord::Asks(word) => self.take_asks(word, line, rest),
-            LineWord::Selects => self.take_select(line, rest),
+            LineKeyword::Declares(keyword) => self.take_declaration(keyword, line, rest),
+            LineKeyword::Begins => self.take_begin(line, rest),
+            LineKeyword::Asks(word) => self.take_asks(word, line, rest),
+            LineKeyword::Selects => self.take_select(line, rest),
         }
     }
 
@@ -256,18 +268,18 @@ impl<A: Allocator + Copy> Reader<A> {
     // Takes a line that declares.
     fn take_declaration(
         &mut self,
-        noun: Noun,
+        keyword: DeclKeyword,
         line: &[u8],
         rest: Option<&[u8]>,
     ) -> Result<(), TextCause>
         requires header { self.old.has_header ≡ true }
         requires read { spec.IsRead self.old }
-        requires words { spec.HasWords self.old.decls.version line.now (LineWord.Declares noun) (parts_left 32 rest) }
+        requires words { spec.HasWords self.old.decls.version line.now (LineKeyword.Declares keyword) (parts_left 32 rest) }
         ensures taken { spec.TakesOrTells self.old line.now result self.new }
     {
         let begun = self.begun();
         if begun > 0 {
-            return Err(word_cause(&self.decls, begun, Word::Declares(noun), rest).unwrap());
+            return Err(word_cause(&self.decls, begun, Word::Declares(keyword), rest).unwrap());
         }
         match read_declaration(&mut self.decls, line) {
             Ok(_) => Ok(()),
@@ -279,7 +291,7 @@ impl<A: Allocator + Copy> Reader<A> {
     fn take_begin(&mut self, line: &[u8], rest: Option<&[u8]>) -> Result<(), TextCause>
         requires header { self.old.has_header ≡ true }
         requires read { spec.IsRead self.old }
-        requires words { spec.HasWords self.old.decls.version line.now LineWord.Begins (parts_left 32 rest) }
+        requires words { spec.HasWords self.old.decls.version line.now LineKeyword.Begins (parts_left 32 rest) }
         ensures taken { spec.TakesOrTells self.old line.now result self.new }
     {
         if let Some(cause) = words_cause(&self.decls, &BEGIN_FIELDS, rest) {
@@ -303,13 +315,13 @@ impl<A: Allocator + Copy> Reader<A> {
     // Takes a line that asks.
     fn take_asks(
         &mut self,
-        word: AskWord,
+        word: StepKeyword,
         line: &[u8],
         rest: Option<&[u8]>,
     ) -> Result<(), TextCause>
         requires header { self.old.has_header ≡ true }
         requires read { spec.IsRead self.old }
-        requires words { spec.HasWords self.old.decls.version line.now (LineWord.Asks word) (parts_left 32 rest) }
+        requires words { spec.HasWords self.old.decls.version line.now (LineKeyword.Asks word) (parts_left 32 rest) }
         ensures taken { spec.TakesOrTells self.old line.now result self.new }
     {
         let (word, rest) = on_nil(word, rest);
@@ -325,7 +337,7 @@ impl<A: Allocator + Copy> Reader<A> {
     fn take_select(&mut self, line: &[u8], rest: Option<&[u8]>) -> Result<(), TextCause>
         requires header { self.old.has_header ≡ true }
         requires read { spec.IsRead self.old }
-        requires words { spec.HasWords self.old.decls.version line.now LineWord.Selects (parts_left 32 rest) }
+        requires words { spec.HasWords self.old.decls.version line.now LineKeyword.Selects (parts_left 32 rest) }
         ensures taken { spec.TakesOrTells self.old line.now result self.new }
     {
         match selected_in(&self.decls, select_words(rest)) {

@@ -5,7 +5,7 @@ use Rattle.std.proofs.lemmas.{Option.slice_get_within, List.length-take-le}
 use Rattle.race_records.specs.declared.{event.Event.Event, kind.Kind.Kind}
 use Rattle.race_records.specs.{Declarations.{count_of, counts_of, capacity_of}, Events.{TraceState, IsTrace}}
 use Rattle.race_model.specs.{Legal.IsLegal, Verdict.{Race, Verdict, IsVerdict, AreReportedRaces}}
-use Rattle.race_legal.specs.{declared.listing.Illegal.Illegal, ReplayState.{ReplayState, IsInRange}}
+use Rattle.race_legal.specs.{declared.legality.Illegal.Illegal, ReplayState.{ReplayState, IsInRange}}
 use Rattle.race_legal.proofs.Fronts.{take_next}
 use Rattle.race_verdict.specs.{Races.{race_of, races_of}, Traces.HasVerdict}
 use Rattle.race_shards.specs.Shards.{ShardState, ShardStandsFor, ShardsStandFor, IsNextBlock, Takes}

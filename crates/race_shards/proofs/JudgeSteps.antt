@@ -15,7 +15,7 @@ use Rattle.race_records.specs.{declared.{event.Event.Event, kind.Kind.Kind}, Dec
 use Rattle.race_records.specs.{Declarations.{counts_of, capacity_of}, Events.{TraceState, IsTrace}}
 use Rattle.race_model.specs.{Legal.{broken, IsLegal, IsIllegalAt}, Verdict.{Verdict, IsVerdict}}
 use Rattle.race_model.proofs.{Indexes.{append_at_old, at_below}, LegalSteps.illegal_push}
-use Rattle.race_legal.specs.{declared.listing.Illegal.Illegal, Rules.number_of}
+use Rattle.race_legal.specs.{declared.legality.Illegal.Illegal, Rules.number_of}
 use Rattle.race_legal.{specs.ReplayState.{ReplayState, IsInRange, counts_in}, proofs.Fronts.take_next}
 use Rattle.race_legal.proofs.RangeLemmas.{range_from_fits}
 use Rattle.race_verdict.specs.{declared.races.Race.Race, Races.{AreRaces, races_of}}

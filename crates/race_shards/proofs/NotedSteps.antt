@@ -3,13 +3,13 @@ use Rattle.std.proofs.{Common.{◌≡◌, ◌<◌, List, All, None, length, get_
 use Rattle.std.proofs.lemmas.List.Elements.{All-weaker}
 use Rattle.race_records.specs.{declared.event.Event.Event, Declarations.Declaration}
 use Rattle.race_model.specs.Events.{count, is_access}
-use Rattle.race_verdict.specs.{declared.notes.NotedRace.NotedRace, Notes.IsNotedRaceOf}
+use Rattle.race_verdict.specs.{declared.report.ReportedRace.ReportedRace, Notes.IsNotedRaceOf}
 use Rattle.race_shards.specs.{Shards.ShardState, Telling.IsNotedBy, Judging.{JudgeState, StandsFor}}
 use Rattle.race_shards.proofs.{JudgeSteps.{some_of, stand_of}, TellSteps.noted_is}
 
 module _ (j : JudgeState) (going : j.illegal ≡ None) (declarations : List Declaration) (past : List Event) (S : StandsFor declarations j past) where
   -- both accesses of each race are noted of the events
-  pub notes_right : (races : List NotedRace) → All (IsNotedBy j.shards j.vars) races → All (IsNotedRaceOf past) races
+  pub notes_right : (races : List ReportedRace) → All (IsNotedBy j.shards j.vars) races → All (IsNotedRaceOf past) races
   notes_right races all =
       All-weaker (IsNotedBy j.shards j.vars) (IsNotedRaceOf past)
       (λ r noted. noted_is declarations j.shards past (some_of j going declarations past S) (stand_of j going declarations past S) r

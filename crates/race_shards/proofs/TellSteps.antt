@@ -10,7 +10,7 @@ use Rattle.race_model.{specs.Race.{IsAccessOf, IsRace}, proofs.Indexes.at_below}
 use Rattle.race_legal.specs.ReplayState.{IsInRange}
 use Rattle.race_access.{specs.{Kept.Kept, StampsOf.IsReportedOn}, proofs.StampSteps.reported_on}
 use Rattle.race_access.proofs.{StandSteps.stands_reports, NoteSteps.notes_are}
-use Rattle.race_verdict.specs.{declared.{notes.NotedRace.NotedRace, races.Race.Race}, Notes.{race_noted, IsNotedRaceOf}}
+use Rattle.race_verdict.specs.{declared.{report.ReportedRace.ReportedRace, races.Race.Race}, Notes.{race_noted, IsNotedRaceOf}}
 use Rattle.race_verdict.{specs.Races.{IsFound, AreFound, AreRaces, races_of}, proofs.RaceLists.are_races}
 use Rattle.race_verdict.proofs.RangeLemmas.{accessed_in_range, accessed_below}
 use Rattle.race_shards.specs.{Variables.{IsKeptOf, kept_of}, Shards.{ShardState, ShardsStandFor}, Telling.race_with}
@@ -83,7 +83,7 @@ module _ (declarations : List Declaration) (shards : List ShardState) (past : Li
               omega (arith, below, long)
 
   -- what is noted of a declared variable is noted of the events
-  pub noted_is : (r : NotedRace) → IsNotedBy shards (count_of Kind.Var declarations) r → IsNotedRaceOf past r
+  pub noted_is : (r : ReportedRace) → IsNotedBy shards (count_of Kind.Var declarations) r → IsNotedRaceOf past r
   noted_is r (less, is) = go (at_below shards (r.var % length shards) (mod_below r.var (length shards) some))
     where
       go : ((s : ShardState) × (slice_get shards (r.var % length shards) ≡ Some s)) → IsNotedRaceOf past r
@@ -109,7 +109,7 @@ told_none shards n is =
     ∙ ap (λ o. races_of (told_below shards n) ++ races_of (o ∷ [])) is ∙ append-nil (races_of (told_below shards n))
 
 -- the same of races that are noted
-pub noted_some : (shards : List ShardState) (n : ℕ) (races : List NotedRace) (r : NotedRace)
+pub noted_some : (shards : List ShardState) (n : ℕ) (races : List ReportedRace) (r : ReportedRace)
     → race_told shards n ≡ Some (record { var = r.var; first = r.first.at; second = r.second.at })
     → map race_noted races ≡ map tool.race_of (races_of (told_below shards n))
     → map race_noted (races ++ r ∷ []) ≡ map tool.race_of (races_of (told_below shards (n + 1)))

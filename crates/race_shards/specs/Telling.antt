@@ -2,7 +2,7 @@
 use Rattle.std.specs.Prelude.{ℕ, ◌≡◌, ◌<◌, ◌/◌, ◌%◌, zero, suc, List, [], ◌∷◌, ◌++◌, length, Option, Some, None}
 use Rattle.std.specs.{Prelude.slice_get, Option.option_map}
 use Rattle.race_access.specs.Kept.{Kept}
-use Rattle.race_verdict.specs.declared.{notes.{Noted.Noted, NotedRace.NotedRace}, races.Race.Race}
+use Rattle.race_verdict.specs.declared.{report.{ReportedAccess.ReportedAccess, ReportedRace.ReportedRace}, races.Race.Race}
 use Rattle.race_shards.specs.{Variables.kept_of, Shards.ShardState}
 
 -- a race on x
@@ -22,15 +22,15 @@ abbrev pub race_told : List ShardState → ℕ → Option Race
 race_told shards x = race_in x (slice_get shards (x % length shards))
 
 -- and what it noted of its two accesses
-abbrev pub noted_in : ℕ → Option ShardState → Option (Noted × Noted)
+abbrev pub noted_in : ℕ → Option ShardState → Option (ReportedAccess × ReportedAccess)
 noted_in x None = None
 noted_in x (Some s) = (kept_of s.variables x).noted
 
-abbrev pub noted_told : List ShardState → ℕ → Option (Noted × Noted)
+abbrev pub noted_told : List ShardState → ℕ → Option (ReportedAccess × ReportedAccess)
 noted_told shards x = noted_in x (slice_get shards (x % length shards))
 
 -- the race is on a variable below n, as the shards noted it
-abbrev pub IsNotedBy : List ShardState → ℕ → NotedRace → Type 0
+abbrev pub IsNotedBy : List ShardState → ℕ → ReportedRace → Type 0
 IsNotedBy shards n r = (r.var < n) × (noted_told shards r.var ≡ Some (r.first, r.second))
 
 -- what is told of the variables below n

@@ -6,12 +6,12 @@ ghost use Rattle.race_legal.specs.ReplayState.{counts_in, ReplayState};
 ghost use Rattle.race_verdict.specs.{Traces.HasVerdict, Verdicts.verdict_of};
 ghost use Rattle.race_shards.specs.Judging.{AreFed, CanJudge, Judges};
 
-use crate::accepting::accept_next;
+use crate::block::accept_next;
+use crate::races::noted_races;
 use crate::shard::Shard;
-use crate::telling::noted_races;
 use race_legal::{Illegal, Replay};
 use race_records::{Event, Kind, Trace};
-use race_verdict::{NotedVerdict, Verdict};
+use race_verdict::{Report, Verdict};
 use std::alloc::{AllocError, Allocator};
 
 /// The verdict on a trace, by one shard on the caller's thread: as [`Judge::judge`](crate::Judge::judge) gives it, and a
@@ -43,7 +43,7 @@ fn verdict_on<A: Allocator + Copy, B: Allocator>(
     let mut shards = Vec::with_capacity(alloc, 1)?;
     shards.push(shard)?;
     let races = noted_races(alloc, shards.as_slice(), trace.decls().count(Kind::Var))?;
-    NotedVerdict::of_races(trace.len(), accesses, races).verdict(alloc)
+    Report::of_races(trace.len(), accesses, races).verdict(alloc)
 }
 
 // Judges the events one by one. The first that breaks a rule is told, and the rest isn't looked at.

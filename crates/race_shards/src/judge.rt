@@ -9,15 +9,15 @@ ghost use Rattle.race_verdict.specs.{Notes.verdict_noted, Verdicts.verdict_of};
 ghost use Rattle.race_shards.specs.{Limits.{is_shards, is_block, IsRefused}, Shards.ShardsStandFor, Judging.StandsFor};
 ghost use Rattle.race_shards.specs.Judging.{GoesOn, CanTake, Judges, Tells, Notes, CanJudge};
 
-use crate::accepting::accept_all;
+use crate::block::accept_all;
 use crate::fault::{JudgeFault, MAX_SHARDS};
 use crate::feeding::{FeedFault, feed_all};
 use crate::gate::Gate;
+use crate::races::noted_races;
 use crate::shard::Shard;
-use crate::telling::noted_races;
 use race_legal::{Illegal, Replay};
 use race_records::{Decls, Event, Kind};
-use race_verdict::{NotedVerdict, Verdict};
+use race_verdict::{Report, Verdict};
 use std::alloc::{AllocError, Allocator, Global};
 use std::marker::Model;
 use std::mem;
@@ -265,7 +265,7 @@ impl<A: Allocator + Copy> Judge<A> {
     }
 
     /// The verdict on the events that were taken, with all that is printed of it but names.
-    pub fn finish_noted(self) -> Result<NotedVerdict<A>, JudgeFault>
+    pub fn finish_noted(self) -> Result<Report<A>, JudgeFault>
         ensures tells { IfOk result (λ verdict. Tells self (verdict_noted verdict)) }
         ensures notes { IfOk result (λ verdict. Notes self verdict) }
         ensures failed { self.failed ≡ true → result ≡ Err JudgeFault.Failed }
@@ -275,11 +275,11 @@ impl<A: Allocator + Copy> Judge<A> {
             return Err(JudgeFault::Failed);
         }
         if let Some(illegal) = self.illegal {
-            return Ok(NotedVerdict::Illegal(illegal));
+            return Ok(Report::Illegal(illegal));
         }
         let accesses = self.shards[0].accesses();
         match noted_races(self.alloc, self.shards.as_slice(), self.vars) {
-            Ok(races) => Ok(NotedVerdict::of_races(self.len, accesses, races)),
+            Ok(races) => Ok(Report::of_races(self.len, accesses, races)),
             Err(_) => Err(JudgeFault::OutOfMemory),
         }
     }

@@ -2,8 +2,8 @@
 //! among them. And the witness of a race: an order of the accesses in which the two stand side by side.
 #![tactic(auto)]
 
-mod accepting;
 mod alone;
+mod block;
 mod fault;
 mod feeding;
 mod gate;
@@ -11,17 +11,17 @@ mod judge;
 pub mod laws;
 mod order;
 mod pair;
+mod races;
 mod seen;
 mod shard;
-mod telling;
 mod variables;
-mod walking;
+mod walk;
 mod whole;
-mod witnessing;
+mod witnesses;
 
 pub use alone::judge_alone;
 pub use fault::{JudgeFault, MAX_BLOCK, MAX_SHARDS, WitnessFault};
 pub use gate::{Gate, OpenGate};
 pub use judge::Judge;
 pub use seen::last_seen;
-pub use witnessing::witness;
+pub use witnesses::witness;

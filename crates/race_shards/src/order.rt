@@ -6,7 +6,7 @@ ghost use Rattle.race_shards.specs.{Pairs.IsPairIn, Witness.IsWitnessList, Listi
 ghost use Rattle.race_shards.specs.Listing.{Adds};
 
 use crate::pair::Pair;
-use crate::walking::step;
+use crate::walk::step;
 use race_clock::{Stamp, Stamper};
 use race_records::{Op, Trace};
 use std::alloc::{AllocError, Allocator};

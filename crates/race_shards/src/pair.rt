@@ -5,7 +5,7 @@ ghost use Rattle.race_verdict.specs.Traces.{capacities};
 ghost use Rattle.race_clock.specs.ClockState.{knows};
 ghost use Rattle.race_shards.specs.{Walking.StandsAt, Pairs.{is_known, is_early, races_on, IsSeenAt, IsFound}};
 
-use crate::walking::step;
+use crate::walk::step;
 use race_clock::{Clock, Stamp, Stamper};
 use race_records::Trace;
 use race_verdict::Race;

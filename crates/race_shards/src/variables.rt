@@ -5,7 +5,7 @@ ghost use Rattle.race_shards.specs.Variables.{AreKept, GoesOn, HasPlaces, IsShap
 
 use race_access::VarState;
 use race_clock::{Clock, Stamp};
-use race_verdict::Noted;
+use race_verdict::ReportedAccess;
 use std::alloc::{AllocError, Allocator, Global};
 use std::marker::Model;
 
@@ -103,7 +103,7 @@ impl<A: Allocator + Copy> Variables<A> {
     }
 
     /// The race of a variable of the shard, with what is printed of both accesses.
-    pub(crate) fn noted(&self, var: u32) -> Option<(Noted, Noted)>
+    pub(crate) fn noted(&self, var: u32) -> Option<(ReportedAccess, ReportedAccess)>
         requires { var / self.now.count < length self.now.kept }
         ensures noted { result ≡ (kept_of self.now var).noted }
         ensures pair { option_map pair_noted result ≡ (kept_of self.now var).pair }

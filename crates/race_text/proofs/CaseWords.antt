@@ -5,10 +5,10 @@ use Rattle.std.proofs.{Common.arith, lemmas.{Bool.Decides.nat_tests, List.take-a
 use Rattle.std.proofs.lemmas.{Option.{none-some, same_Some}, Slice.Eq.bytes_eq-Decides}
 use Rattle.std.specs.{List.{list_all, join_with_byte}, Str.bytes_eq}
 use Rattle.race_records.specs.declared.{cases.{Case.Case, Dir.Dir, TheConstants.MAX_CASES}, kind.Kind.Kind}
-use Rattle.race_records.specs.declared.{kind.Named.Named, parts.PartKind.PartKind}
+use Rattle.race_records.specs.declared.{kind.Named.Named, operands.OperandKind.OperandKind}
 use Rattle.race_records.specs.{Name.{is_name, is_name_byte, is_place_byte}, Declarations.{Declaration, DeclsState}}
 use Rattle.race_records.specs.Declarations.{IsWellFormed, count_of, number_of}
-use Rattle.race_records.specs.Parts.{chan_is_in_range, case_is_in_range}
+use Rattle.race_records.specs.Operands.{chan_is_in_range, case_is_in_range}
 use Rattle.race_text.specs.{declared.cause.TextCause.TextCause, Least.{then_says, says_by}, Meaning.{named_in, chan_of}}
 use Rattle.race_text.specs.{Meaning.{chan_in, case_with, spelled_case_in, case_in, cases_in}, Select.{no_cases, nil}}
 use Rattle.race_text.specs.{Select.{behind, SpelledCase, case_by, case_spelled}, Text.{chan_name, chan_text, dir_text}}
@@ -49,8 +49,8 @@ not_nil w form = by (bytes_eq w nil) refl
     by true same = absurd (true≢false (sym form ∙ ap is_name ((bytes_eq-Decides w nil).0 same)))
     by false other = refl
 
-abbrev pub a_chan : PartKind
-a_chan = PartKind.Object Kind.Chan
+abbrev pub a_chan : OperandKind
+a_chan = OperandKind.Object Kind.Chan
 
 module _ (ds : List Declaration) where
   abbrev in_range : Case → Bool

@@ -4,40 +4,40 @@ use Rattle.std.proofs.Common.{drop, get_or, arith, Bool, true, false, true≢fal
 use Rattle.std.proofs.{Common.{Ok, ap, ◌∙◌, Option}, lemmas.{Bool.Decides.nat_tests, List.length-take-le}}
 use Rattle.std.{proofs.lemmas.Nat.trailing_le, specs.{List.list_all, Option.{option_and_then, option_map}}}
 use Rattle.std.specs.Result.{result_ok}
-use Rattle.race_records.specs.declared.{event.Op.Op, kind.{Kind.Kind, Named.Named}, parts.Part.Part}
-use Rattle.race_records.specs.declared.{parts.{PartKind.PartKind, Verb.Verb}, version.Version.Version}
+use Rattle.race_records.specs.declared.{event.Op.Op, kind.{Kind.Kind, Named.Named}, operands.Operand.Operand}
+use Rattle.race_records.specs.declared.{operands.{OperandKind.OperandKind, OpKeyword.OpKeyword}, version.Version.Version}
 use Rattle.race_records.specs.{declared.name.TheConstants.MAX_PLACE_LEN, Declarations.Declaration}
-use Rattle.race_records.specs.{Name.{is_place, is_place_byte}, Parts.{op_by, part_kinds, has_two_places}}
+use Rattle.race_records.specs.{Name.{is_place, is_place_byte}, Operands.{op_by, operand_kinds, has_two_places}}
 use lib.Count.{count_trailing_zeros}
 use Rattle.race_text.specs.{Words.parts_of, declared.form.Word.Word, Form.{has_word, word_named, first_word}}
-use Rattle.race_text.specs.{Least.says_by, Meaning.{named_in, part_in}, Reading.{ReadPart, ReadParts, ReadOp}}
-use Rattle.race_text.specs.Reading.{occurrence, with_rest, first_part, parts_on, goroutine_of, with_no_rest, last_place}
+use Rattle.race_text.specs.{Least.says_by, Meaning.{named_in, operand_in}, Reading.{ReadOperand, ReadOperands, ReadOp}}
+use Rattle.race_text.specs.Reading.{occurrence, with_rest, first_operand, operands_on, goroutine_of, with_no_rest, last_place}
 use Rattle.race_text.specs.{Reading.{op_before, op_in, last_places, event_of, event_by, event_in}, Common.IsMarked}
-use Rattle.race_text.specs.Common.{words_in, CutsWord, SaysVerb, SaysObject, SaysValue, SaysDeed, SaysPlace, SaysEvent}
-use Rattle.race_text.{specs.Common.{names_object, value_kinds, value_parts}, proofs.MarkLemmas.first_part_is}
+use Rattle.race_text.specs.Common.{words_in, CutsWord, SaysKeyword, SaysObject, SaysValue, SaysDeed, SaysPlace, SaysEvent}
+use Rattle.race_text.{specs.Common.{names_object, value_kinds, value_operands}, proofs.MarkLemmas.first_operand_is}
 use Rattle.race_text.proofs.{MarkLemmas.{within_line, word_is_seen, cuts_last}, WordTable.word_of_version}
 
 -- a word of each version is one of the line
-pub says_verb : (bytes : List ℕ) (len : ℕ) (rest : List ℕ) (verb : Verb) → CutsWord bytes len rest → word_named (take len bytes) ≡ Some (Word.Does verb)
-    → ((version : Version) → has_word version (Word.Does verb) ≡ true) → SaysVerb bytes verb rest
-says_verb bytes len rest verb cut named each = record {
+pub says_op_keyword : (bytes : List ℕ) (len : ℕ) (rest : List ℕ) (keyword : OpKeyword) → CutsWord bytes len rest → word_named (take len bytes) ≡ Some (Word.Does keyword)
+    → ((version : Version) → has_word version (Word.Does keyword) ≡ true) → SaysKeyword bytes keyword rest
+says_op_keyword bytes len rest keyword cut named each = record {
   says = λ version ds.
       ap (event_in version ds) cut.words
-      ∙ ap (λ w. event_by ds w (words_in rest)) (word_of_version version (take len bytes) (Word.Does verb) named (each version));
+      ∙ ap (λ w. event_by ds w (words_in rest)) (word_of_version version (take len bytes) (Word.Does keyword) named (each version));
   behind = cut.behind;
 }
 
 -- a name is what it stands for, where that is wanted
-object_said : (ds : List Declaration) (kind : PartKind) (w : List ℕ) (named : Named) → names_object kind ≡ true → named_in ds kind w ≡ Ok named
-    → part_in ds kind w ≡ Ok (Part.Object named)
-object_said ds (PartKind.Object kind) w named object h = ap (says_by Part.Object) h
-object_said ds PartKind.RwMutex w named object h = ap (says_by Part.Object) h
+object_said : (ds : List Declaration) (kind : OperandKind) (w : List ℕ) (named : Named) → names_object kind ≡ true → named_in ds kind w ≡ Ok named
+    → operand_in ds kind w ≡ Ok (Operand.Object named)
+object_said ds (OperandKind.Object kind) w named object h = ap (says_by Operand.Object) h
+object_said ds OperandKind.RwMutex w named object h = ap (says_by Operand.Object) h
 object_said ds _ w named object h = absurd (true≢false (sym object))
 
-pub says_named : (ds : List Declaration) (kind : PartKind) (bytes : List ℕ) (len : ℕ) (rest : List ℕ) (named : Named)
+pub says_named : (ds : List Declaration) (kind : OperandKind) (bytes : List ℕ) (len : ℕ) (rest : List ℕ) (named : Named)
     → CutsWord bytes len rest → names_object kind ≡ true → named_in ds kind (take len bytes) ≡ Ok named → SaysObject ds kind bytes named rest
 says_named ds kind bytes len rest named cut object is = record {
-  says = ap (first_part ds kind) cut.words
+  says = ap (first_operand ds kind) cut.words
       ∙ ap (λ r. option_map (with_rest (words_in rest)) (result_ok r)) (object_said ds kind (take len bytes) named object is);
   behind = cut.behind;
 }
@@ -65,37 +65,37 @@ says_place marks bytes m some is =
       behind = cut.1;
     }
 
-module _ (ds : List Declaration) (bytes objects rest : List ℕ) (verb : Verb) (kind : PartKind) (has_value : Bool) (object : Named) where
-  says_op : (op : Op) (value : Option ℕ) → part_kinds verb ≡ kind ∷ value_kinds has_value
+module _ (ds : List Declaration) (bytes objects rest : List ℕ) (keyword : OpKeyword) (kind : OperandKind) (has_value : Bool) (object : Named) where
+  says_op : (op : Op) (value : Option ℕ) → operand_kinds keyword ≡ kind ∷ value_kinds has_value
       → SaysObject ds kind bytes object objects → SaysValue has_value objects value rest
-      → op_by verb (Part.Object object ∷ value_parts value) ≡ Some op → op_in ds verb (part_kinds verb) (words_in bytes) ≡ Some (op, words_in rest)
+      → op_by keyword (Operand.Object object ∷ value_operands value) ≡ Some op → op_in ds keyword (operand_kinds keyword) (words_in bytes) ≡ Some (op, words_in rest)
   says_op op value kinds first second is =
-      ap (λ ks. op_in ds verb ks (words_in bytes)) kinds
-      ∙ ap (λ o. option_and_then (λ (parts : ReadParts). option_map (op_before parts.1) (op_by verb parts.0))
-      (option_and_then (λ (f : ReadPart). parts_on ds ([] ++ f.0 ∷ []) (value_kinds has_value) f.1) o)) first.says
-      ∙ ap (option_and_then (λ (parts : ReadParts). option_map (op_before parts.1) (op_by verb parts.0))) (second.says ds (Part.Object object ∷ []))
+      ap (λ ks. op_in ds keyword ks (words_in bytes)) kinds
+      ∙ ap (λ o. option_and_then (λ (operands : ReadOperands). option_map (op_before operands.1) (op_by keyword operands.0))
+      (option_and_then (λ (f : ReadOperand). operands_on ds ([] ++ f.0 ∷ []) (value_kinds has_value) f.1) o)) first.says
+      ∙ ap (option_and_then (λ (operands : ReadOperands). option_map (op_before operands.1) (op_by keyword operands.0))) (second.says ds (Operand.Object object ∷ []))
       ∙ ap (option_map (op_before (words_in rest))) is
 
-  pub says_deed : (op : Op) (value : Option ℕ) → part_kinds verb ≡ kind ∷ value_kinds has_value
+  pub says_deed : (op : Op) (value : Option ℕ) → operand_kinds keyword ≡ kind ∷ value_kinds has_value
       → SaysObject ds kind bytes object objects → SaysValue has_value objects value rest
-      → op_by verb (Part.Object object ∷ value_parts value) ≡ Some op → has_two_places verb ≡ false → SaysDeed ds verb bytes op rest
+      → op_by keyword (Operand.Object object ∷ value_operands value) ≡ Some op → has_two_places keyword ≡ false → SaysDeed ds keyword bytes op rest
   says_deed op value kinds o val is one = record {
     says = says_op op value kinds o val is;
     behind = o.behind ∙ val.behind;
     one_place = one;
   }
 
-module _ (ds : List Declaration) (bytes verbs whos deeds rest : List ℕ) (verb : Verb) (goroutine : Named) (who : ℕ) where
-  pub says_event : (op : Op) (place : List ℕ) → SaysVerb bytes verb verbs
-      → SaysObject ds (PartKind.Object Kind.Goroutine) verbs goroutine whos → goroutine_of (Part.Object goroutine) ≡ Some who
-      → SaysDeed ds verb whos op deeds → SaysPlace deeds place rest → SaysEvent ds bytes (occurrence who op (place, None)) rest
+module _ (ds : List Declaration) (bytes words whos deeds rest : List ℕ) (keyword : OpKeyword) (goroutine : Named) (who : ℕ) where
+  pub says_event : (op : Op) (place : List ℕ) → SaysKeyword bytes keyword words
+      → SaysObject ds (OperandKind.Object Kind.Goroutine) words goroutine whos → goroutine_of (Operand.Object goroutine) ≡ Some who
+      → SaysDeed ds keyword whos op deeds → SaysPlace deeds place rest → SaysEvent ds bytes (occurrence who op (place, None)) rest
   says_event op place v g is_who d p = record {
     says = λ version.
         v.says version ds
-        ∙ ap (option_and_then (λ (first : ReadPart). option_and_then (λ who. event_of ds verb who first.1) (goroutine_of first.0))) g.says
-        ∙ ap (option_and_then (λ who. event_of ds verb who (words_in whos))) is_who
-        ∙ ap (option_and_then (λ (read : ReadOp). option_map (occurrence who read.0) (last_places (has_two_places verb) read.1))) d.says
+        ∙ ap (option_and_then (λ (first : ReadOperand). option_and_then (λ who. event_of ds keyword who first.1) (goroutine_of first.0))) g.says
+        ∙ ap (option_and_then (λ who. event_of ds keyword who (words_in whos))) is_who
+        ∙ ap (option_and_then (λ (read : ReadOp). option_map (occurrence who read.0) (last_places (has_two_places keyword) read.1))) d.says
         ∙ ap (λ two. option_map (occurrence who op) (last_places two (words_in deeds))) d.one_place
         ∙ ap (λ l. option_map (occurrence who op) (option_map (λ w. (w, None)) l)) p.says;
-    ends = first_part_is bytes ∙ ap (λ ps. first_word (parts_of bytes) ∷ ps) (v.behind ∙ g.behind ∙ d.behind ∙ p.behind);
+    ends = first_operand_is bytes ∙ ap (λ ps. first_word (parts_of bytes) ∷ ps) (v.behind ∙ g.behind ∙ d.behind ∙ p.behind);
   }

@@ -7,19 +7,19 @@ use Rattle.std.{proofs.lemmas.{Option.{none-some, same_Some}, Fmt.decimal_is_IsN
 use Rattle.std.specs.{List.{join_with_byte, list_all}, Str.{bytes_eq, Parse.digits_value}, Fmt.decimal}
 use Rattle.std.specs.{Option.option_and_then, Result.result_err}
 use Rattle.race_records.specs.{Refusal.{Refuses, AllowsUnless}, declared.declarations.DeclFault.DeclFault}
-use Rattle.race_records.specs.declared.{kind.{Kind.Kind, Object.Object}, nouns.Noun.Noun}
+use Rattle.race_records.specs.declared.{kind.{Kind.Kind, Object.Object}, decl_keywords.DeclKeyword.DeclKeyword}
 use Rattle.race_records.specs.{Name.{is_name, is_place_byte}, Declarations.{Declaration, decl_fault, find_name}}
-use Rattle.race_records.specs.{Declarations.{kind_of, count_of, limit_of, is_too_wide}, Nouns.{object_says, object_by}}
-use Rattle.race_records.{specs.Nouns.{number_limit, kind_of_noun}, proofs.NounLaws.{IsWanted, object_is_there}}
-use Rattle.race_records.proofs.NounLaws.{object_by_says, kind_of_says, says_wanted, object_says_again}
+use Rattle.race_records.specs.{Declarations.{kind_of, count_of, limit_of, is_too_wide}, DeclKeywords.{object_says, object_by}}
+use Rattle.race_records.{specs.DeclKeywords.{number_limit, kind_of_decl_keyword}, proofs.DeclKeywordLaws.{IsWanted, object_is_there}}
+use Rattle.race_records.proofs.DeclKeywordLaws.{object_by_says, kind_of_says, says_wanted, object_says_again}
 use Rattle.race_text.specs.declared.{cause.TextCause.TextCause, form.{Field.Field, Word.Word}}
 use Rattle.race_text.specs.{Words.{words_of, number, parts_left}, Form.{word_named, first_word, arguments}}
 use Rattle.race_text.specs.{Form.number_fields, Fault.{or_else, field_cause, fields_cause, new_name_cause}}
 use Rattle.race_text.specs.Fault.{number_behind, room_cause, word_cause, seen_so_far, declaration, declaration_in}
 use Rattle.race_text.specs.{Fault.declared_as, Least.lesser, Meaning.number_in, Declaring.is_declaration_word}
-use Rattle.race_text.specs.Declaring.{is_declaration_line, declaration_cause, noun_cause, object_read}
+use Rattle.race_text.specs.Declaring.{is_declaration_line, declaration_cause, decl_keyword_cause, object_read}
 use Rattle.race_text.{specs.Writing.number_words, proofs.{WordLemmas.name_is_visible, NumberLemmas.number-some}}
-use Rattle.race_text.proofs.{PartWords.number_spelled, CauseLemmas.{lesser_none, fine_is_ok, ok_or_is}}
+use Rattle.race_text.proofs.{OperandWords.number_spelled, CauseLemmas.{lesser_none, fine_is_ok, ok_or_is}}
 
 -- a line, by its first word and the others
 module _ (line first : List ℕ) (args : List (List ℕ)) (word : Option Word) (words : words_of line ≡ first ∷ args) (named : word ≡ word_named first) where
@@ -62,17 +62,17 @@ is_number limit w h =
     let parts = number_parts limit w said.0 is in
     record { n = said.0; is = is; low = parts.0; value = parts.1; text = number_spelled limit w said.0 is }
 
--- the words behind a noun, where no cause holds of them
-pub record IsThere (ds : List Declaration) (noun : Noun) (args : List (List ℕ)) : Type 0 where
+-- the words behind a keyword, where no cause holds of them
+pub record IsThere (ds : List Declaration) (keyword : DeclKeyword) (args : List (List ℕ)) : Type 0 where
   pub name : List ℕ
   pub others : List (List ℕ)
   pub words : args ≡ name ∷ others
   pub is_name : is_name name ≡ true
   pub object : Object
-  pub by : object_by noun (number_behind others) ≡ Some object
+  pub by : object_by keyword (number_behind others) ≡ Some object
   pub spelled : others ≡ number_words (number_behind others)
   -- what is left in the code behind the name
-  pub read : (rest : Option (Bor (List ℕ))) → parts_left 32 rest ≡ others → object_read noun (number_limit noun) (option_map (λ w. w.now) rest) ≡ Some object
+  pub read : (rest : Option (Bor (List ℕ))) → parts_left 32 rest ≡ others → object_read keyword (number_limit keyword) (option_map (λ w. w.now) rest) ≡ Some object
   pub fine : decl_fault ds object name ≡ None
 
 -- the least cause of a name of this kind, and of a number where there is a limit of it
@@ -90,8 +90,8 @@ record IsNamed (ds : List Declaration) (kind : Kind) (limit : Option ℕ) (args 
   pub wanted : IsWanted limit number
   pub not_taken : new_name_cause ds name ≡ None
   pub room : room_cause (seen_so_far ds 0) (Some kind) ≡ None
-  pub read : (noun : Noun) (rest : Option (Bor (List ℕ))) → parts_left 32 rest ≡ number_words number
-      → object_read noun limit (option_map (λ w. w.now) rest) ≡ object_by noun number
+  pub read : (keyword : DeclKeyword) (rest : Option (Bor (List ℕ))) → parts_left 32 rest ≡ number_words number
+      → object_read keyword limit (option_map (λ w. w.now) rest) ≡ object_by keyword number
 
 both_none : (a b : Option TextCause) → or_else a b ≡ None → (a ≡ None) × (b ≡ None)
 both_none None b h = (refl, h)
@@ -126,7 +126,7 @@ is_named ds kind None (name ∷ []) h =
       wanted = tt;
       not_taken = parts.0;
       room = parts.1;
-      read = λ noun rest e. ap (object_read noun None) (no_word_left rest e);
+      read = λ keyword rest e. ap (object_read keyword None) (no_word_left rest e);
     }
 is_named ds kind None (name ∷ w ∷ ws) h = absurd (too_many (length (name ∷ w ∷ ws)) 1 _ (omega arith) h)
 is_named ds kind (Some limit) [] h = absurd (none-some TextCause.WrongCount (sym h))
@@ -143,8 +143,8 @@ is_named ds kind (Some limit) (name ∷ w ∷ []) h =
       wanted = number.low;
       not_taken = causes.0;
       room = parts.1;
-      read = λ noun rest e. ap (object_read noun (Some limit)) (one_word_left rest w (e ∙ (λ i. sym number.text i ∷ [])))
-          ∙ ap (option_and_then (λ n. object_by noun (Some n))) number.is;
+      read = λ keyword rest e. ap (object_read keyword (Some limit)) (one_word_left rest w (e ∙ (λ i. sym number.text i ∷ [])))
+          ∙ ap (option_and_then (λ n. object_by keyword (Some n))) number.is;
     }
 is_named ds kind (Some limit) (name ∷ w ∷ v ∷ ws) h = absurd (too_many (length (name ∷ w ∷ v ∷ ws)) 2 _ (omega arith) h)
 
@@ -164,16 +164,16 @@ no_fault true false true e h k narrow = absurd (none-some TextCause.TooMany (sym
 no_fault true false false true h k narrow = absurd (true≢false narrow)
 no_fault true false false false h k narrow = (refl, refl)
 
--- the kind of what a noun makes
-pub kind_made : (noun : Noun) (number : Option ℕ) (object : Object) → object_by noun number ≡ Some object → kind_of_noun noun ≡ kind_of object
-kind_made noun number object e = ap (λ (says : Noun × Option ℕ). kind_of_noun says.0) (sym (object_by_says noun number object e)) ∙ kind_of_says object
+-- the kind of what a keyword makes
+pub kind_made : (keyword : DeclKeyword) (number : Option ℕ) (object : Object) → object_by keyword number ≡ Some object → kind_of_decl_keyword keyword ≡ kind_of object
+kind_made keyword number object e = ap (λ (says : DeclKeyword × Option ℕ). kind_of_decl_keyword says.0) (sym (object_by_says keyword number object e)) ∙ kind_of_says object
 
-pub is_there : (ds : List Declaration) (noun : Noun) (args : List (List ℕ)) → noun_cause ds noun args ≡ None → IsThere ds noun args
+pub is_there : (ds : List Declaration) (keyword : DeclKeyword) (args : List (List ℕ)) → decl_keyword_cause ds keyword args ≡ None → IsThere ds keyword args
 unfolding decl_fault
-is_there ds noun args h =
-    let is = is_named ds (kind_of_noun noun) (number_limit noun) args h in
-    let made = object_is_there noun is.number is.wanted in
-    let room = subst (λ (kind : Kind). room_cause (seen_so_far ds 0) (Some kind) ≡ None) (kind_made noun is.number made.0 made.1) is.room in
+is_there ds keyword args h =
+    let is = is_named ds (kind_of_decl_keyword keyword) (number_limit keyword) args h in
+    let made = object_is_there keyword is.number is.wanted in
+    let room = subst (λ (kind : Kind). room_cause (seen_so_far ds 0) (Some kind) ≡ None) (kind_made keyword is.number made.0 made.1) is.room in
     let fine = no_fault (is_name is.name) (is_some (find_name ds is.name))
     (nat_le (limit_of (kind_of made.0)) (count_of (kind_of made.0) ds)) (is_too_wide made.0) is.not_taken room made.2 in
     record {
@@ -182,65 +182,65 @@ is_there ds noun args h =
       words = is.words;
       is_name = fine.0;
       object = made.0;
-      by = ap (object_by noun) is.behind ∙ made.1;
+      by = ap (object_by keyword) is.behind ∙ made.1;
       spelled = ap number_words (sym is.behind);
-      read = λ rest e. is.read noun rest e ∙ made.1;
+      read = λ rest e. is.read keyword rest e ∙ made.1;
       fine = fine.1;
     }
 
 -- so they declare it
-pub declared_there : (ds : List Declaration) (noun : Noun) (args : List (List ℕ)) (there : IsThere ds noun args)
-    → declared_as (Some (Word.Declares noun)) args ≡ Some (declaration there.name there.object)
-declared_there ds noun args there = ap (declared_as (Some (Word.Declares noun))) there.words ∙ ap (option_map (declaration there.name)) there.by
+pub declared_there : (ds : List Declaration) (keyword : DeclKeyword) (args : List (List ℕ)) (there : IsThere ds keyword args)
+    → declared_as (Some (Word.Declares keyword)) args ≡ Some (declaration there.name there.object)
+declared_there ds keyword args there = ap (declared_as (Some (Word.Declares keyword))) there.words ∙ ap (option_map (declaration there.name)) there.by
 
 -- what the code has in hand there, once it has cut off the name
-pub record InHand (ds : List Declaration) (noun : Noun) (args : List (List ℕ)) (first : List ℕ) (behind : Option (Bor (List ℕ))) : Type 0 where
+pub record InHand (ds : List Declaration) (keyword : DeclKeyword) (args : List (List ℕ)) (first : List ℕ) (behind : Option (Bor (List ℕ))) : Type 0 where
   pub object : Object
-  pub read : object_read noun (number_limit noun) (option_map (λ w. w.now) behind) ≡ Some object
+  pub read : object_read keyword (number_limit keyword) (option_map (λ w. w.now) behind) ≡ Some object
   pub visible : list_all is_place_byte first ≡ true
-  pub declared : declared_as (Some (Word.Declares noun)) args ≡ Some (declaration first object)
+  pub declared : declared_as (Some (Word.Declares keyword)) args ≡ Some (declaration first object)
   pub fine : decl_fault ds object first ≡ None
 
-pub in_hand : (ds : List Declaration) (noun : Noun) (args : List (List ℕ)) (first : List ℕ) (behind : Option (Bor (List ℕ)))
-    → args ≡ first ∷ parts_left 32 behind → noun_cause ds noun args ≡ None
-    → InHand ds noun args first behind
-in_hand ds noun args first behind split none =
-    let there = is_there ds noun args none in
+pub in_hand : (ds : List Declaration) (keyword : DeclKeyword) (args : List (List ℕ)) (first : List ℕ) (behind : Option (Bor (List ℕ)))
+    → args ≡ first ∷ parts_left 32 behind → decl_keyword_cause ds keyword args ≡ None
+    → InHand ds keyword args first behind
+in_hand ds keyword args first behind split none =
+    let there = is_there ds keyword args none in
     let name : there.name ≡ first = cc (there.words, split) in
     let others : parts_left 32 behind ≡ there.others = cc (there.words, split) in
     record {
       object = there.object;
       read = there.read behind others;
       visible = name_is_visible first (ap is_name (sym name) ∙ there.is_name);
-      declared = declared_there ds noun args there ∙ (λ i. Some (declaration (name i) there.object));
+      declared = declared_there ds keyword args there ∙ (λ i. Some (declaration (name i) there.object));
       fine = ap (decl_fault ds there.object) (sym name) ∙ there.fine;
     }
 
-pub made_in_hand : (ds : List Declaration) (noun : Noun) (args : List (List ℕ)) (first : List ℕ)
-    (behind : Option (Bor (List ℕ))) (hand : InHand ds noun args first behind) (object : Object)
-    → object_read noun (number_limit noun) (option_map (λ w. w.now) behind) ≡ Some object
-    → (declared_as (Some (Word.Declares noun)) args ≡ Some (declaration first object)) × (decl_fault ds object first ≡ None)
-made_in_hand ds noun args first behind hand object read =
+pub made_in_hand : (ds : List Declaration) (keyword : DeclKeyword) (args : List (List ℕ)) (first : List ℕ)
+    (behind : Option (Bor (List ℕ))) (hand : InHand ds keyword args first behind) (object : Object)
+    → object_read keyword (number_limit keyword) (option_map (λ w. w.now) behind) ≡ Some object
+    → (declared_as (Some (Word.Declares keyword)) args ≡ Some (declaration first object)) × (decl_fault ds object first ≡ None)
+made_in_hand ds keyword args first behind hand object read =
     let same = same_Some hand.object object (sym hand.read ∙ read) in
     (hand.declared ∙ (λ i. Some (declaration first (same i))), (λ i. decl_fault ds (sym same i) first) ∙ hand.fine)
 
--- and behind the noun stands what the object says
-pub spelled_there : (ds : List Declaration) (noun : Noun) (args : List (List ℕ)) (there : IsThere ds noun args)
-    → (noun ≡ (object_says there.object).0) × (args ≡ there.name ∷ number_words (object_says there.object).1)
-spelled_there ds noun args there =
-    let says = object_by_says noun (number_behind there.others) there.object there.by in (
-      ap (λ (s : Noun × Option ℕ). s.0) (sym says),
+-- and behind the keyword stands what the object says
+pub spelled_there : (ds : List Declaration) (keyword : DeclKeyword) (args : List (List ℕ)) (there : IsThere ds keyword args)
+    → (keyword ≡ (object_says there.object).0) × (args ≡ there.name ∷ number_words (object_says there.object).1)
+spelled_there ds keyword args there =
+    let says = object_by_says keyword (number_behind there.others) there.object there.by in (
+      ap (λ (s : DeclKeyword × Option ℕ). s.0) (sym says),
       there.words ∙ (λ i. there.name ∷ there.spelled i)
-          ∙ ap (λ (s : Noun × Option ℕ). there.name ∷ number_words s.1) (sym says),
+          ∙ ap (λ (s : DeclKeyword × Option ℕ). there.name ∷ number_words s.1) (sym says),
     )
 
 -- the way back: what an object says is declared again, and no cause holds of it
-pub narrow_limit : (noun : Noun) (limit : ℕ) → number_limit noun ≡ Some limit → limit < 2 ^ 32
-narrow_limit Noun.Chan limit e = let is = same_Some _ limit e in omega (arith, is)
+pub narrow_limit : (keyword : DeclKeyword) (limit : ℕ) → number_limit keyword ≡ Some limit → limit < 2 ^ 32
+narrow_limit DeclKeyword.Chan limit e = let is = same_Some _ limit e in omega (arith, is)
 narrow_limit _ limit e = absurd (none-some limit e)
 
-pub small_limit : (noun : Noun) (limit : ℕ) → number_limit noun ≡ Some limit → limit < 2 ^ 64
-small_limit Noun.Chan limit e = let is = same_Some _ limit e in omega (arith, is)
+pub small_limit : (keyword : DeclKeyword) (limit : ℕ) → number_limit keyword ≡ Some limit → limit < 2 ^ 64
+small_limit DeclKeyword.Chan limit e = let is = same_Some _ limit e in omega (arith, is)
 small_limit _ limit e = absurd (none-some limit e)
 
 number_again : (limit number : Option ℕ) → IsWanted limit number → ((l : ℕ) → limit ≡ Some l → l < 2 ^ 64) → number_behind (number_words number) ≡ number
@@ -271,21 +271,21 @@ allowed_parts true false false true h = absurd (none-some DeclFault.BadCapacity 
 allowed_parts true false false false h = (refl, refl, refl)
 
 pub said_fine : (ds : List Declaration) (name : List ℕ) (object : Object) → decl_fault ds object name ≡ None
-    → noun_cause ds (object_says object).0 (name ∷ number_words (object_says object).1) ≡ None
+    → decl_keyword_cause ds (object_says object).0 (name ∷ number_words (object_says object).1) ≡ None
 unfolding decl_fault
 said_fine ds name object h =
-    let noun = (object_says object).0 in
+    let keyword = (object_says object).0 in
     let parts = allowed_parts (is_name name) (is_some (find_name ds name))
     (nat_le (limit_of (kind_of object)) (count_of (kind_of object) ds)) (is_too_wide object) h in
     let room = subst (λ (kind : Kind). room_cause (seen_so_far ds 0) (Some kind) ≡ None) (sym (kind_of_says object)) parts.1 in
-    fine_words ds (kind_of_noun noun) (number_limit noun) (object_says object).1 name (says_wanted object parts.2) (small_limit noun) parts.0 room
+    fine_words ds (kind_of_decl_keyword keyword) (number_limit keyword) (object_says object).1 name (says_wanted object parts.2) (small_limit keyword) parts.0 room
 
 pub said_again : (name : List ℕ) (object : Object) → is_too_wide object ≡ false
     → declared_as (Some (Word.Declares (object_says object).0)) (name ∷ number_words (object_says object).1) ≡ Some (declaration name object)
 said_again name object narrow =
-    let noun = (object_says object).0 in
-    ap (λ o. option_map (declaration name) (object_by noun o))
-    (number_again (number_limit noun) (object_says object).1 (says_wanted object narrow) (small_limit noun))
+    let keyword = (object_says object).0 in
+    ap (λ o. option_map (declaration name) (object_by keyword o))
+    (number_again (number_limit keyword) (object_says object).1 (says_wanted object narrow) (small_limit keyword))
     ∙ ap (option_map (declaration name)) (object_says_again object)
 
 -- a cause that is there is told

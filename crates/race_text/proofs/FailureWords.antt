@@ -5,9 +5,9 @@ use Rattle.std.proofs.lemmas.{Bool.Decides.nat_tests, Option.{none-some, same_So
 use Rattle.std.specs.{List.list_all, Option.option_map_or, Str.bytes_eq}
 use Rattle.race_records.specs.declared.event.Cause.{Cause, TheVariants.{SendClosed, CloseClosed, CloseNil, UnlockFree}}
 use Rattle.race_records.specs.declared.{event.{Cause.TheVariants.RUnlockFree, Op.TheVariants.Fault}, kind.Named.Named}
-use Rattle.race_records.specs.{declared.parts.Part.Part, Name.{is_name, is_place_byte}, Declarations.Declaration}
+use Rattle.race_records.specs.{declared.operands.Operand.Operand, Name.{is_name, is_place_byte}, Declarations.Declaration}
 use Rattle.race_records.specs.Declarations.{DeclsState, IsWellFormed, IsDeclared, counts_of, name_of}
-use Rattle.race_records.specs.{Events.lock_fits, Parts.{failed_at, named_is_in_range, part_fits}}
+use Rattle.race_records.specs.{Events.lock_fits, Operands.{failed_at, named_is_in_range, operand_fits}}
 use Rattle.race_text.specs.declared.{cause.TextCause.TextCause, select.{Attempt.Attempt, TheConstants.ATTEMPTS}}
 use Rattle.race_text.specs.{Form.is_wanted, Select.{close_nil, behind, SpelledFailure, failure_by, failure_among}}
 use Rattle.race_text.specs.{Select.{failure_spelled, kind_tried, cause_by}, Text.failure_text}
@@ -72,7 +72,7 @@ module _ (decls : DeclsState) (holds : IsWellFormed decls) where
       )
 
   -- so does what is printed of any failure
-  pub failure_again : (cause : Cause) → part_fits ds (Part.Cause cause) ≡ true → lock_fits ds (Fault cause) ≡ true → IsAgain cause
+  pub failure_again : (cause : Cause) → operand_fits ds (Operand.Cause cause) ≡ true → lock_fits ds (Fault cause) ≡ true → IsAgain cause
   failure_again (SendClosed c) fit lock = tried_again Attempt.Send (Named.Chan c) refl (grind (arith, nat_tests, fit))
   failure_again (CloseClosed c) fit lock = tried_again Attempt.Close (Named.Chan c) refl (grind (arith, nat_tests, fit))
   failure_again CloseNil fit lock = (refl, refl)
@@ -82,7 +82,7 @@ module _ (decls : DeclsState) (holds : IsWellFormed decls) where
   -- what holds of a word that says a failure
   pub record IsFailure (w : List ℕ) (cause : Cause) : Type 0 where
     pub text : w ≡ failure_text ds cause
-    pub fits : part_fits ds (Part.Cause cause) ≡ true
+    pub fits : operand_fits ds (Operand.Cause cause) ≡ true
     pub lock : lock_fits ds (Fault cause) ≡ true
 
   -- of the cause of an attempt at what is wanted

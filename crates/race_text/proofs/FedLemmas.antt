@@ -267,6 +267,11 @@ module _ (causes : Causes) where
   next_still Stood Still Stands still bytes (Some rest) next = (next.0, λ lines S. next.1 lines (still lines S))
   next_still Stood Still Stands still bytes None next = (next.0, λ lines S. next.1 lines (still lines S))
 
+  -- what was told of the next line is this
+  pub next_is : {o p : Option (Bor (List ℕ))} (Stood : List (List ℕ) → Type 0) (bytes : List ℕ) (Stands : List (List ℕ) → Type 0) → o ≡ p
+      → TakesNext causes Stood bytes o Stands → TakesNext causes Stood bytes p Stands
+  next_is Stood bytes Stands is next = subst (λ o. TakesNext causes Stood bytes o Stands) is next
+
   pub tells_still : (Stood Still : List (List ℕ) → Type 0) → ForEachLines Stood Still → (bytes : List ℕ) (told : TextFault)
       → TellsOfNext causes Still bytes told → TellsOfNext causes Stood bytes told
   tells_still Stood Still still bytes told tells = record { rest = tells.rest; ends = tells.ends; is = λ lines S. tells.is lines (still lines S) }

@@ -3,12 +3,12 @@ pub mod LaneLemmas
 pub mod WordTable
 pub mod HeaderLemmas
 pub mod UsedNames
-pub mod WantedParts
+pub mod WantedOperands
 pub mod PieceWords
 pub mod CaseWords
 pub mod FailureWords
 pub mod CasePieces
-pub mod PartWords
+pub mod OperandWords
 pub mod PlaceWords
 pub mod PlacesAdded
 pub mod SeenLemmas

@@ -87,8 +87,8 @@ last_cut (b ∷ bs) (suc n) within seen newline =
     (words_on b bs first ∙ ap (onto_first b) more.0, behind_on b bs (no_newline b first) ∙ more.1)
 
 -- a text has a first part
-pub first_part_is : (bytes : List ℕ) → parts_of bytes ≡ line_in bytes ∷ parts_behind bytes
-first_part_is bytes = by (parts_of bytes) (let l = length-slice_split (λ b. b == 10) bytes in omega (arith, l))
+pub first_operand_is : (bytes : List ℕ) → parts_of bytes ≡ line_in bytes ∷ parts_behind bytes
+first_operand_is bytes = by (parts_of bytes) (let l = length-slice_split (λ b. b == 10) bytes in omega (arith, l))
   where
     by : (ps : List (List ℕ)) → 0 < length ps → ps ≡ first_word ps ∷ arguments ps
     by [] h = absurd (omega (arith, h))

@@ -8,7 +8,7 @@ use Rattle.race_records.specs.declared.{event.Event.Event, declarations.{DeclFau
 use Rattle.race_records.specs.{declared.kind.Kind.Kind, Name.is_place, Declarations.{DeclsState, is_known}}
 use Rattle.race_records.specs.Declarations.{place_number, with_place, place_fault, IsWellFormed, count_of}
 use Rattle.race_records.specs.Events.{TraceState, IsTrace, fits, is_in_range, is_right_kind, has_op, lock_fits, op_fits}
-use Rattle.race_records.specs.{Events.second_place_fits, Parts.{says, has_two_places}}
+use Rattle.race_records.specs.{Events.second_place_fits, Operands.{says, has_two_places}}
 use Rattle.race_records.proofs.EventLemmas.{with_place_is_trace}
 use Rattle.race_records.proofs.ListLemmas.{slice_get-push_within, slice_get-push_last}
 use Rattle.race_records.proofs.{PlaceLemmas.with_place_well_formed, TextLemmas.position_or_len-absent}

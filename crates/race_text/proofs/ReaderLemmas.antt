@@ -4,14 +4,14 @@ use Rattle.std.proofs.Common.{None, Result, Ok, Err, IfOk, refl, sym, ap, subst,
 use Rattle.std.proofs.lemmas.{List.Splits.join_with_byte-slice_split, Option.none-some}
 use Rattle.race_records.specs.{declared.version.Version.Version, Declarations.{Declaration, DeclsState, decl_fault}}
 use Rattle.race_records.specs.{Declarations.with_declaration, Events.{TraceState, IsTrace}}
-use Rattle.race_records.specs.{Refusal.{Refuses, AllowsUnless}, Nouns.object_says}
+use Rattle.race_records.specs.{Refusal.{Refuses, AllowsUnless}, DeclKeywords.object_says}
 use Rattle.race_records.proofs.{DeclFaultLemmas.allowed_from_no_fault, DeclsKept.{empty_well_formed, push_well_formed}}
 use Rattle.race_text.specs.{declared.{cause.TextCause.TextCause, form.Word.Word}, Words.{words_of, has_bad_byte}}
 use Rattle.race_text.specs.Text.{header, line_of, declaration_line, lines, HasText}
 use Rattle.race_text.specs.{Form.{word_named, first_word, arguments}, Fault.{seen, seen_so_far, version_said}}
 use Rattle.race_text.specs.Fault.{header_cause, cause, trace_causes, word_cause, declaration, declaration_in}
 use Rattle.race_text.specs.{Fault.{is_event_line, is_event_word}, Lines.GoesOn, Owed.owed}
-use Rattle.race_text.specs.{Writing.{noun_text, number_words}, Declaring.{is_declaration_line, is_declaration_word}}
+use Rattle.race_text.specs.{Writing.{decl_keyword_text, number_words}, Declaring.{is_declaration_line, is_declaration_word}}
 use Rattle.race_text.specs.{Declaring.{declaration_cause, with_declared, with_declaration_in}, Taking.state_of}
 use Rattle.race_text.specs.{Taking.{IsRead, TakesLine, begun}, Reader.{nothing_in, trace_read, lines_read, IsReading}}
 use Rattle.race_text.specs.Reader.{TakesIfDeclared, TakesDeclaration}
@@ -80,20 +80,20 @@ module _ (ds : List Declaration) (line first : List ℕ) (args : List (List ℕ)
 
   by_word : (word : Option Word) → word_named first ≡ word → is_declaration_word word ≡ true → declaration_cause ds line ≡ None → IsDeclaration ds line
   by_word None named h none = absurd (true≢false (sym h))
-  by_word (Some (Word.Declares noun)) named h none =
-      let there = is_there ds noun args (sym (declaration_cause-words line first args (Some (Word.Declares noun)) words (sym named) ds) ∙ none) in
-      let said = spelled_there ds noun args there in
+  by_word (Some (Word.Declares decl_keyword)) named h none =
+      let there = is_there ds decl_keyword args (sym (declaration_cause-words line first args (Some (Word.Declares decl_keyword)) words (sym named) ds) ∙ none) in
+      let said = spelled_there ds decl_keyword args there in
       record {
         d = declaration there.name there.object;
-        is = declaration_in-words line first args (Some (Word.Declares noun)) words (sym named) ∙ declared_there ds noun args there;
+        is = declaration_in-words line first args (Some (Word.Declares decl_keyword)) words (sym named) ∙ declared_there ds decl_keyword args there;
         text =
-            joined ∙ (λ i. line_of (word_spelled first (Word.Declares noun) named i ∷ said.1 i))
-            ∙ (λ i. line_of (noun_text (said.0 i) ∷ there.name ∷ number_words (object_says there.object).1))
+            joined ∙ (λ i. line_of (word_spelled first (Word.Declares decl_keyword) named i ∷ said.1 i))
+            ∙ (λ i. line_of (decl_keyword_text (said.0 i) ∷ there.name ∷ number_words (object_says there.object).1))
             ∙ ap line_of (sym (object_words_are there.name there.object));
-        event = ap is_event_word (named_line (Word.Declares noun) named);
+        event = ap is_event_word (named_line (Word.Declares decl_keyword) named);
         fine = there.fine;
       }
-  by_word (Some (Word.Does verb)) named h none = absurd (true≢false (sym h))
+  by_word (Some (Word.Does op_keyword)) named h none = absurd (true≢false (sym h))
 
 pub declaration_of_line : (ds : List Declaration) (line : List ℕ) → is_declaration_line line ≡ true → declaration_cause ds line ≡ None → IsDeclaration ds line
 declaration_of_line ds line h none = by (words_of line) refl h

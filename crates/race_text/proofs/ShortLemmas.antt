@@ -8,13 +8,13 @@ use Rattle.std.specs.{List.{flat_map, list_all, join_with_byte}, Str.bytes_eq}
 use Rattle.race_records.specs.declared.cases.{Case.Case, Dir.Dir, TheConstants.MAX_CASES}
 use Rattle.race_records.specs.declared.event.Cause.TheVariants.{SendClosed, CloseClosed, CloseNil, UnlockFree}
 use Rattle.race_records.specs.declared.event.{Cause.TheVariants.RUnlockFree, Event.Event, Op.{Op, TheVariants.Go}}
-use Rattle.race_records.specs.declared.{kind.{Named.Named, Kind.Kind, Object.Object}, parts.{Part.Part, Verb.Verb}}
-use Rattle.race_records.specs.{declared.nouns.Noun.Noun, Parts.{says, part_is_limited}, Name.{main, is_name}}
+use Rattle.race_records.specs.declared.{kind.{Named.Named, Kind.Kind, Object.Object}, operands.{Operand.Operand, OpKeyword.OpKeyword}}
+use Rattle.race_records.specs.{declared.decl_keywords.DeclKeyword.DeclKeyword, Operands.{says, operand_is_limited}, Name.{main, is_name}}
 use Rattle.race_records.specs.{Name.{is_name_byte, is_place, is_place_byte}, Declarations.{Declaration, DeclsState}}
 use Rattle.race_records.specs.Declarations.{is_of_kind, of_kind, nth_name, is_too_wide, IsWellFormed}
-use Rattle.race_records.specs.{Nouns.{object_says, number_limit}, Events.{TraceState, IsTrace, op_is_limited}}
-use Rattle.race_records.proofs.NounLaws.{IsWanted, says_wanted}
-use Rattle.race_text.specs.Writing.{noun_text, number_words, verb_text, part_text, declarations_text, events_text, body}
+use Rattle.race_records.specs.{DeclKeywords.{object_says, number_limit}, Events.{TraceState, IsTrace, op_is_limited}}
+use Rattle.race_records.proofs.DeclKeywordLaws.{IsWanted, says_wanted}
+use Rattle.race_text.specs.Writing.{decl_keyword_text, number_words, op_keyword_text, operand_text, declarations_text, events_text, body}
 use Rattle.race_text.specs.Text.{text, header, ended, line_of, declaration_line, goroutine_name, chan_text, dir_text}
 use Rattle.race_text.specs.Text.{case_text, cases_text, place_text, second_text, place_words, event_line}
 use Rattle.race_text.proofs.{EventLines.op_words_are, WordLemmas.both, DeclarationLemmas.small_limit}
@@ -85,31 +85,31 @@ module _ (decls : DeclsState) (holds : IsWellFormed decls) where
   value_short : (v : ℕ) → nat_lt v (2 ^ 64) ≡ true → length (decimal v) ≤ 20
   value_short v low = let below : v < 2 ^ 64 = grind (arith, nat_tests) in length-decimal-le 20 v (omega arith) (omega (arith, below)) below
 
-  noun_short : (noun : Noun) → length (noun_text noun) ≤ 64
-  noun_short Noun.Goroutine = omega arith
-  noun_short _ = omega arith
+  decl_keyword_short : (decl_keyword : DeclKeyword) → length (decl_keyword_text decl_keyword) ≤ 64
+  decl_keyword_short DeclKeyword.Goroutine = omega arith
+  decl_keyword_short _ = omega arith
 
-  -- a noun, a name, and a number where there is a limit of it
-  declared_short : (noun : Noun) (name : List ℕ) (limit number : Option ℕ) → length name ≤ 64 → IsWanted limit number → ((l : ℕ) → limit ≡ Some l → l < 2 ^ 64)
-      → length (ended (line_of (noun_text noun ∷ name ∷ number_words number))) ≤ 5000
-  declared_short noun name None None short wanted small =
-      let len = more (noun_text noun) (name ++ 10 ∷ []) 64 65 (noun_short noun) (last name 64 short) in
-      subst (λ l. length l ≤ 5000) (sym (line_of_2 (noun_text noun) name)) (omega (arith, len))
-  declared_short noun name (Some l) (Some n) short wanted small =
+  -- a keyword, a name, and a number where there is a limit of it
+  declared_short : (decl_keyword : DeclKeyword) (name : List ℕ) (limit number : Option ℕ) → length name ≤ 64 → IsWanted limit number → ((l : ℕ) → limit ≡ Some l → l < 2 ^ 64)
+      → length (ended (line_of (decl_keyword_text decl_keyword ∷ name ∷ number_words number))) ≤ 5000
+  declared_short decl_keyword name None None short wanted small =
+      let len = more (decl_keyword_text decl_keyword) (name ++ 10 ∷ []) 64 65 (decl_keyword_short decl_keyword) (last name 64 short) in
+      subst (λ l. length l ≤ 5000) (sym (line_of_2 (decl_keyword_text decl_keyword) name)) (omega (arith, len))
+  declared_short decl_keyword name (Some l) (Some n) short wanted small =
       let low = small l refl in
       let digits = value_short n (grind (arith, nat_tests, low, wanted)) in
       let behind = more name (decimal n ++ 10 ∷ []) 64 21 short (last (decimal n) 20 digits) in
-      let len = more (noun_text noun) (name ++ 32 ∷ (decimal n ++ 10 ∷ [])) 64 86 (noun_short noun) behind in
-      subst (λ l. length l ≤ 5000) (sym (ended_more (noun_text noun) name (decimal n ∷ [])
-      ∙ ap (λ l. noun_text noun ++ 32 ∷ l) (line_of_2 name (decimal n)))) (omega (arith, len))
-  declared_short noun name None (Some n) short wanted small = absurd wanted
-  declared_short noun name (Some l) None short wanted small = absurd wanted
+      let len = more (decl_keyword_text decl_keyword) (name ++ 32 ∷ (decimal n ++ 10 ∷ [])) 64 86 (decl_keyword_short decl_keyword) behind in
+      subst (λ l. length l ≤ 5000) (sym (ended_more (decl_keyword_text decl_keyword) name (decimal n ∷ [])
+      ∙ ap (λ l. decl_keyword_text decl_keyword ++ 32 ∷ l) (line_of_2 name (decimal n)))) (omega (arith, len))
+  declared_short decl_keyword name None (Some n) short wanted small = absurd wanted
+  declared_short decl_keyword name (Some l) None short wanted small = absurd wanted
 
   declaration_short : (d : Declaration) → length d.name ≤ 64 → is_too_wide d.object ≡ false → length (ended (declaration_line d)) ≤ 5000
   declaration_short d short narrow =
-      let noun = (object_says d.object).0 in
+      let decl_keyword = (object_says d.object).0 in
       subst (λ ws. length (ended (line_of ws)) ≤ 5000) (sym (object_words_are d.name d.object))
-      (declared_short noun d.name (number_limit noun) (object_says d.object).1 short (says_wanted d.object narrow) (small_limit noun))
+      (declared_short decl_keyword d.name (number_limit decl_keyword) (object_says d.object).1 short (says_wanted d.object narrow) (small_limit decl_keyword))
 
   chan_short : (chan : Option ℕ) → length (chan_text decls.declarations chan) ≤ 64
   chan_short None = omega arith
@@ -138,21 +138,21 @@ module _ (decls : DeclsState) (holds : IsWellFormed decls) where
       let low : length (case ∷ cases) ≤ MAX_CASES = grind (arith, nat_tests, few) in
       omega (arith, short, low)
 
-  part_short : (part : Part) → part_is_limited part ≡ true → length (part_text decls.declarations part) ≤ 1120
-  part_short (Part.Object (Named.Goroutine n)) low = let short = goroutine_short n in omega (arith, short)
-  part_short (Part.Object (Named.Var n)) low = let short = nth_short Kind.Var n in omega (arith, short)
-  part_short (Part.Object (Named.Chan n)) low = let short = nth_short Kind.Chan n in omega (arith, short)
-  part_short (Part.Object (Named.Lock n)) low = let short = nth_short Kind.Lock n in omega (arith, short)
-  part_short (Part.Object (Named.Once n)) low = let short = nth_short Kind.Once n in omega (arith, short)
-  part_short (Part.Value v) low = let short = value_short v low in omega (arith, short)
-  part_short (Part.Cases cases) low = cases_short cases low
-  part_short (Part.Cause (SendClosed c)) low = let short = nth_short Kind.Chan c in omega (arith, short)
-  part_short (Part.Cause (CloseClosed c)) low = let short = nth_short Kind.Chan c in omega (arith, short)
-  part_short (Part.Cause CloseNil) low = omega arith
-  part_short (Part.Cause (UnlockFree l)) low = let short = nth_short Kind.Lock l in omega (arith, short)
-  part_short (Part.Cause (RUnlockFree l)) low = let short = nth_short Kind.Lock l in omega (arith, short)
+  operand_short : (operand : Operand) → operand_is_limited operand ≡ true → length (operand_text decls.declarations operand) ≤ 1120
+  operand_short (Operand.Object (Named.Goroutine n)) low = let short = goroutine_short n in omega (arith, short)
+  operand_short (Operand.Object (Named.Var n)) low = let short = nth_short Kind.Var n in omega (arith, short)
+  operand_short (Operand.Object (Named.Chan n)) low = let short = nth_short Kind.Chan n in omega (arith, short)
+  operand_short (Operand.Object (Named.Lock n)) low = let short = nth_short Kind.Lock n in omega (arith, short)
+  operand_short (Operand.Object (Named.Once n)) low = let short = nth_short Kind.Once n in omega (arith, short)
+  operand_short (Operand.Value v) low = let short = value_short v low in omega (arith, short)
+  operand_short (Operand.Cases cases) low = cases_short cases low
+  operand_short (Operand.Cause (SendClosed c)) low = let short = nth_short Kind.Chan c in omega (arith, short)
+  operand_short (Operand.Cause (CloseClosed c)) low = let short = nth_short Kind.Chan c in omega (arith, short)
+  operand_short (Operand.Cause CloseNil) low = omega arith
+  operand_short (Operand.Cause (UnlockFree l)) low = let short = nth_short Kind.Lock l in omega (arith, short)
+  operand_short (Operand.Cause (RUnlockFree l)) low = let short = nth_short Kind.Lock l in omega (arith, short)
 
-  -- a word, and the parts behind it, and the places
+  -- a word, and the operands behind it, and the places
   places_short : (a : List ℕ) (n : ℕ) (place2 : Option ℕ) → length a ≤ 1120
       → length (ended (line_of (a ∷ place_words (place_text decls.places n) (second_text decls.places place2)))) ≤ 1380
   places_short a n None short =
@@ -166,38 +166,38 @@ module _ (decls : DeclsState) (holds : IsWellFormed decls) where
       let len = more a (place ++ 32 ∷ (second ++ 10 ∷ [])) 1120 258 short behind in
       subst (λ l. length l ≤ 1380) (sym (ended_more a place (second ∷ []) ∙ ap (λ l. a ++ 32 ∷ l) (line_of_2 place second))) (omega (arith, len))
 
-  parts_short : (a : List ℕ) (parts : List Part) (n : ℕ) (place2 : Option ℕ) → length a ≤ 1120 → list_all part_is_limited parts ≡ true
-      → length (ended (line_of (a ∷ map (part_text decls.declarations) parts ++ place_words (place_text decls.places n) (second_text decls.places place2))))
-      ≤ 1121 * length parts + 1380
-  parts_short a [] n place2 short low = places_short a n place2 short
-  parts_short a (part ∷ parts) n place2 short low =
-      let lows = both (part_is_limited part) (list_all part_is_limited parts) low in
-      let text = part_text decls.declarations part in
+  operands_short : (a : List ℕ) (operands : List Operand) (n : ℕ) (place2 : Option ℕ) → length a ≤ 1120 → list_all operand_is_limited operands ≡ true
+      → length (ended (line_of (a ∷ map (operand_text decls.declarations) operands ++ place_words (place_text decls.places n) (second_text decls.places place2))))
+      ≤ 1121 * length operands + 1380
+  operands_short a [] n place2 short low = places_short a n place2 short
+  operands_short a (operand ∷ operands) n place2 short low =
+      let lows = both (operand_is_limited operand) (list_all operand_is_limited operands) low in
+      let text = operand_text decls.declarations operand in
       let places = place_words (place_text decls.places n) (second_text decls.places place2) in
-      let rest = parts_short text parts n place2 (part_short part lows.0) lows.1 in
-      let len = more a _ 1120 (1121 * length parts + 1380) short rest in
-      subst (λ l. length l ≤ 1121 * length (part ∷ parts) + 1380)
-      (sym (ended_more a text (map (part_text decls.declarations) parts ++ places))) (omega (arith, len))
+      let rest = operands_short text operands n place2 (operand_short operand lows.0) lows.1 in
+      let len = more a _ 1120 (1121 * length operands + 1380) short rest in
+      subst (λ l. length l ≤ 1121 * length (operand ∷ operands) + 1380)
+      (sym (ended_more a text (map (operand_text decls.declarations) operands ++ places))) (omega (arith, len))
 
-  verb_short : (verb : Verb) → length (verb_text verb) ≤ 64
-  verb_short Verb.Go = omega arith
-  verb_short _ = omega arith
+  op_keyword_short : (op_keyword : OpKeyword) → length (op_keyword_text op_keyword) ≤ 64
+  op_keyword_short OpKeyword.Go = omega arith
+  op_keyword_short _ = omega arith
 
-  few_parts : (op : Op) → length (says op).1 ≤ 3
-  few_parts (Go h) = omega arith
-  few_parts _ = omega arith
+  few_operands : (op : Op) → length (says op).1 ≤ 3
+  few_operands (Go h) = omega arith
+  few_operands _ = omega arith
 
   event_short : (e : Event) → IsTrue (op_is_limited e.op) → length (ended (event_line decls e)) ≤ 5000
   event_short e value =
       let who = goroutine_name decls.declarations e.who in
       let places = place_words (place_text decls.places e.place) (second_text decls.places e.place2) in
-      let verb = (says e.op).0 in
-      let parts = (says e.op).1 in
-      let rest = parts_short who parts e.place e.place2 (let short = goroutine_short e.who in omega (arith, short)) value in
-      let len = more (verb_text verb) _ 64 (1121 * length parts + 1380) (verb_short verb) rest in
+      let op_keyword = (says e.op).0 in
+      let operands = (says e.op).1 in
+      let rest = operands_short who operands e.place e.place2 (let short = goroutine_short e.who in omega (arith, short)) value in
+      let len = more (op_keyword_text op_keyword) _ 64 (1121 * length operands + 1380) (op_keyword_short op_keyword) rest in
       subst (λ ws. length (ended (line_of ws)) ≤ 5000) (sym (op_words_are decls.declarations who places e.op))
-      (subst (λ l. length l ≤ 5000) (sym (ended_more (verb_text verb) who (map (part_text decls.declarations) parts ++ places)))
-      (omega (arith, len, few_parts e.op)))
+      (subst (λ l. length l ≤ 5000) (sym (ended_more (op_keyword_text op_keyword) who (map (operand_text decls.declarations) operands ++ places)))
+      (omega (arith, len, few_operands e.op)))
 
 -- so many pieces, none of them long
 pieces_short : {X : Type 0} (piece : X → List ℕ) (xs : List X) → ((i : ℕ) (x : X) → slice_get xs i ≡ Some x → length (piece x) ≤ 5000)

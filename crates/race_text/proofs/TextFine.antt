@@ -8,7 +8,7 @@ use Rattle.race_records.specs.declared.{event.Event.Event, kind.{Named.Named, Ob
 use Rattle.race_records.specs.{declared.{trace.TheConstants.MAX_EVENTS, version.Version.Version}, Name.{main, is_name}}
 use Rattle.race_records.specs.Declarations.{Declaration, DeclsState, IsWellFormed, kind_of, is_of_kind, of_kind}
 use Rattle.race_records.specs.Declarations.{count_of, limit_of, is_too_wide, declared_at, find_name, decl_fault}
-use Rattle.race_records.specs.{Events.TraceState, Nouns.object_says}
+use Rattle.race_records.specs.{Events.TraceState, DeclKeywords.object_says}
 use Rattle.race_text.specs.{declared.{cause.{TextCause.TextCause, TextFault.TextFault}, form.Word.Word}, Text.header}
 use Rattle.race_text.specs.{Text.{declaration_line, event_line, lines, text, HasText, IsTraceText}, Words.words_of}
 use Rattle.race_text.specs.{Form.{first_word, arguments}, Lines.{fault_after, first_fault}, Fault.{Seen, seen}}

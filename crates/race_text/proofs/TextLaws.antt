@@ -5,24 +5,24 @@ use Rattle.std.proofs.lemmas.{List.{append_cancel_right, Elements.filter_map-app
 use Rattle.std.{proofs.lemmas.Bool.Decides.nat_tests, specs.Fmt.decimal}
 use Rattle.std.specs.{List.{filter_map, cons_option, AllByRecursion}, Option.option_and_then}
 use Rattle.race_records.specs.{declared.{event.Event.Event, version.Version.Version}, Name.is_name}
-use Rattle.race_records.specs.{Declarations.{Declaration, is_too_wide}, Nouns.{object_says, number_limit}}
-use Rattle.race_records.specs.{Events.{TraceState, fits, second_place_fits}, Parts.{says, has_two_places}}
+use Rattle.race_records.specs.{Declarations.{Declaration, is_too_wide}, DeclKeywords.{object_says, number_limit}}
+use Rattle.race_records.specs.{Events.{TraceState, fits, second_place_fits}, Operands.{says, has_two_places}}
 use Rattle.race_records.specs.TraceEquality.{PlacedEvent, placed, placed_events, recorded}
-use Rattle.race_records.proofs.NounLaws.{IsWanted, says_wanted}
+use Rattle.race_records.proofs.DeclKeywordLaws.{IsWanted, says_wanted}
 use Rattle.race_text.specs.{declared.form.Word.Word, Words.{parts_of, words_of, has_bad_byte}, Text.{header, line_of}}
 use Rattle.race_text.specs.{Text.{second_text, declaration_line, event_line, lines, text, HasText}, Form.word_named}
 use Rattle.race_text.specs.{Form.{word_in, first_word, arguments}, Fault.{declaration_in, declared_as, is_event_line}}
 use Rattle.race_text.specs.{Fault.is_event_word, Reading.{Occurrence, event_by, event_in}}
-use Rattle.race_text.{specs.Writing.{noun_text, number_words}, proofs.CleanLemmas.number_is_visible}
+use Rattle.race_text.{specs.Writing.{decl_keyword_text, number_words}, proofs.CleanLemmas.number_is_visible}
 use Rattle.race_text.proofs.{DeclarationLemmas.{small_limit, said_again}, NumberLemmas.number-some}
 use Rattle.race_text.proofs.{EventLines.{IsEventLine, event_line as event_line_of}, EventsAgain.{said, event_again}}
 use Rattle.race_text.proofs.{HeaderLemmas.same_version, PlacesAdded.is_fit, WordTable.{word_is_seen, word_of_version}}
-use Rattle.race_text.proofs.{WordTable.{object_words_are, noun_again}, WordLemmas.name_is_visible}
-use Rattle.race_text.proofs.WordsAgain.{AreVisible, words_again, visible_line_clean, parts_again}
+use Rattle.race_text.proofs.{WordTable.{object_words_are, decl_keyword_again}, WordLemmas.name_is_visible}
+use Rattle.race_text.proofs.WordsAgain.{AreVisible, words_again, visible_line_clean, operands_again}
 
 -- what holds of the line of a declaration, whose name has a name's form
 pub record IsDeclarationLine (d : Declaration) (line : List ℕ) : Type 0 where
-  pub words : words_of line ≡ noun_text (object_says d.object).0 ∷ d.name ∷ number_words (object_says d.object).1
+  pub words : words_of line ≡ decl_keyword_text (object_says d.object).0 ∷ d.name ∷ number_words (object_says d.object).1
   pub named : word_named (first_word (words_of line)) ≡ Some (Word.Declares (object_says d.object).0)
   pub declares : declaration_in line ≡ Some d
   pub clean : has_bad_byte line ≡ false
@@ -36,31 +36,31 @@ numbers_visible (Some l) None wanted small = absurd wanted
 
 pub declaration_again : (d : Declaration) → is_name d.name ≡ true → is_too_wide d.object ≡ false → IsDeclarationLine d (declaration_line d)
 declaration_again d form narrow =
-    let noun = (object_says d.object).0 in
+    let keyword = (object_says d.object).0 in
     let numbers = number_words (object_says d.object).1 in
-    let found = noun_again noun in
-    let visible : AreVisible (noun_text noun ∷ d.name ∷ numbers) = (
-      word_is_seen (noun_text noun) (Word.Declares noun) found,
-      (name_is_visible d.name form, numbers_visible (number_limit noun) (object_says d.object).1 (says_wanted d.object narrow) (small_limit noun)),
+    let found = decl_keyword_again keyword in
+    let visible : AreVisible (decl_keyword_text keyword ∷ d.name ∷ numbers) = (
+      word_is_seen (decl_keyword_text keyword) (Word.Declares keyword) found,
+      (name_is_visible d.name form, numbers_visible (number_limit keyword) (object_says d.object).1 (says_wanted d.object narrow) (small_limit keyword)),
     ) in
     let printed = object_words_are d.name d.object in
-    let again = ap (λ ws. words_of (line_of ws)) printed ∙ words_again (noun_text noun) (d.name ∷ numbers) visible in
+    let again = ap (λ ws. words_of (line_of ws)) printed ∙ words_again (decl_keyword_text keyword) (d.name ∷ numbers) visible in
     let named = ap (λ ws. word_named (first_word ws)) again ∙ found in
     record {
       words = again;
       named = named;
       declares = (λ j. declared_as (named j) (arguments (again j))) ∙ said_again d.name d.object narrow;
-      clean = ap (λ ws. has_bad_byte (line_of ws)) printed ∙ visible_line_clean (noun_text noun ∷ d.name ∷ numbers) visible;
+      clean = ap (λ ws. has_bad_byte (line_of ws)) printed ∙ visible_line_clean (decl_keyword_text keyword ∷ d.name ∷ numbers) visible;
     }
 
 -- it says no event
 pub says_no_event : (version : Version) (ds : List Declaration) (d : Declaration) (line : List ℕ) → IsDeclarationLine d line
     → event_in version ds (words_of line) ≡ None
 says_no_event version ds d line is =
-    let noun = (object_says d.object).0 in
-    let named : word_named (noun_text noun) ≡ Some (Word.Declares noun) = noun_again noun in
+    let keyword = (object_says d.object).0 in
+    let named : word_named (decl_keyword_text keyword) ≡ Some (Word.Declares keyword) = decl_keyword_again keyword in
     ap (event_in version ds) is.words ∙ ap (λ w. event_by ds w (d.name ∷ number_words (object_says d.object).1))
-    (word_of_version version (noun_text noun) (Word.Declares noun) named refl)
+    (word_of_version version (decl_keyword_text keyword) (Word.Declares keyword) named refl)
 
 pub is_no_event : (d : Declaration) (line : List ℕ) → IsDeclarationLine d line → is_event_line line ≡ false
 is_no_event d line is = ap is_event_word is.named
@@ -137,7 +137,7 @@ module _ (t : TraceState) (has : HasText t) where
 
   pub lines_again : parts_of (text t) ≡ lines t ++ [] ∷ []
   unfolding text
-  lines_again = parts_again (lines t) lines_clean
+  lines_again = operands_again (lines t) lines_clean
 
   -- the lines say the declarations and the events
   declarations_again : filter_map declaration_in (lines t) ≡ ds

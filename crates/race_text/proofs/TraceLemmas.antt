@@ -9,8 +9,8 @@ use Rattle.std.specs.Option.{option_and_then}
 use Rattle.race_records.specs.declared.{event.Event.Event, trace.{PushFault.PushFault, TheConstants.MAX_EVENTS}}
 use Rattle.race_records.specs.{declared.{version.Version.Version, kind.Kind.Kind}, Declarations.Declaration}
 use Rattle.race_records.specs.Declarations.{DeclsState, place_number, with_declaration, IsWellFormed, count_of}
-use Rattle.race_records.specs.{Declarations.limit_of, Nouns.kind_of_noun, Events.{TraceState, IsTrace, fits}}
-use Rattle.race_records.specs.{Events.{is_in_range, is_right_kind, push_fault}, Parts.{says, has_two_places}}
+use Rattle.race_records.specs.{Declarations.limit_of, DeclKeywords.kind_of_decl_keyword, Events.{TraceState, IsTrace, fits}}
+use Rattle.race_records.specs.{Events.{is_in_range, is_right_kind, push_fault}, Operands.{says, has_two_places}}
 use Rattle.race_records.proofs.EventLemmas.{push_is_trace}
 use Rattle.race_text.specs.{declared.{cause.TextCause.TextCause, form.Word.Word}, Words.{words_of, has_bad_byte}}
 use Rattle.race_text.specs.Form.{word_named, as_had, word_in, fields_of, kind_declared, first_word, arguments}
@@ -247,9 +247,9 @@ no_event : (ds : List Declaration) (events : ℕ) (word : Option Word) (args : L
     → (is_declaration_word word ≡ true → 0 < events)
     → word_cause (seen_so_far ds events) word args ≡ None → ⊥
 no_event ds events None args none behind h = none-some TextCause.UnknownWord (sym h)
-no_event ds events (Some (Word.Declares noun)) args none behind h =
-    late_declaration ds events (Word.Declares noun) (kind_of_noun noun) args refl (behind refl) h
-no_event ds events (Some (Word.Does verb)) args none behind h = event_is_there ds events verb args h none
+no_event ds events (Some (Word.Declares decl_keyword)) args none behind h =
+    late_declaration ds events (Word.Declares decl_keyword) (kind_of_decl_keyword decl_keyword) args refl (behind refl) h
+no_event ds events (Some (Word.Does op_keyword)) args none behind h = event_is_there ds events op_keyword args h none
 
 pub no_word : word_named [] ≡ None
 unfolding word_named

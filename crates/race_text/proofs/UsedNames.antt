@@ -1,7 +1,7 @@
 -- What a used name stands for in its place: an object that is wanted there.
 use Rattle.std.proofs.Common.{◌≡◌, ℕ, Bool, true, false, true≢false, not, if◌then◌else◌, List, [], unwrap_or, Some}
 use Rattle.std.proofs.Common.{ok_or, Ok, Err, refl, sym, ap, subst, ◌∙◌}
-use Rattle.race_records.specs.{declared.{kind.{Kind.Kind, Named.Named}, parts.PartKind.PartKind}, Name.is_name}
+use Rattle.race_records.specs.{declared.{kind.{Kind.Kind, Named.Named}, operands.OperandKind.OperandKind}, Name.is_name}
 use Rattle.race_records.specs.Declarations.{Declaration, DeclsState, IsWellFormed, IsDeclared, find_name, is_named}
 use Rattle.race_records.specs.Declarations.{name_of}
 use Rattle.race_text.specs.{declared.cause.TextCause.TextCause, Form.is_wanted, Least.then_says}
@@ -10,13 +10,13 @@ use Rattle.race_text.proofs.{FoundLemmas.{found_is_name, found_is_declared, name
 
 module _ (ds : List Declaration) where
   -- what holds of a used name
-  pub record IsUsed (kind : PartKind) (w : List ℕ) (named : Named) : Type 0 where
+  pub record IsUsed (kind : OperandKind) (w : List ℕ) (named : Named) : Type 0 where
     pub text : w ≡ unwrap_or (name_of ds named) []
     pub form : is_name w ≡ true
     pub declared : IsDeclared ds named
     pub wanted : is_wanted ds kind named ≡ true
 
-  pub is_used : (kind : PartKind) (w : List ℕ) (named : Named) → named_in ds kind w ≡ Ok named → IsUsed kind w named
+  pub is_used : (kind : OperandKind) (w : List ℕ) (named : Named) → named_in ds kind w ≡ Ok named → IsUsed kind w named
   is_used kind w named h = by (is_name w) refl h
     where
       found : is_name w ≡ true → (what : Named) → find_name ds w ≡ Some what → (b : Bool) → is_wanted ds kind what ≡ b
@@ -38,12 +38,12 @@ module _ (ds : List Declaration) where
       by false form h = absurd (ok-err named TextCause.BadName (sym h))
 
   -- an rwmutex is a lock
-  pub rwmutex_is_lock : (named : Named) → is_wanted ds PartKind.RwMutex named ≡ true → is_named Kind.Lock named ≡ true
+  pub rwmutex_is_lock : (named : Named) → is_wanted ds OperandKind.RwMutex named ≡ true → is_named Kind.Lock named ≡ true
   rwmutex_is_lock (Named.Lock l) h = refl
   rwmutex_is_lock _ h = absurd (true≢false (sym h))
 
 -- an object that is found is what the word names, where it is wanted there
-pub named_by_found : (decls : DeclsState) (kind : PartKind) (w : List ℕ) (named : Named) → IsWellFormed decls
+pub named_by_found : (decls : DeclsState) (kind : OperandKind) (w : List ℕ) (named : Named) → IsWellFormed decls
     → find_name decls.declarations w ≡ Some named → is_wanted decls.declarations kind named ≡ true
     → named_in decls.declarations kind w ≡ Ok named
 named_by_found decls kind w named holds found wanted =
@@ -52,7 +52,7 @@ named_by_found decls kind w named holds found wanted =
     ∙ ap (λ b. if b then Ok named else Err TextCause.WrongKind) wanted
 
 -- the name by which an object is printed stands for it
-pub used_again : (decls : DeclsState) → IsWellFormed decls → (kind : PartKind) (named : Named) → is_wanted decls.declarations kind named ≡ true
+pub used_again : (decls : DeclsState) → IsWellFormed decls → (kind : OperandKind) (named : Named) → is_wanted decls.declarations kind named ≡ true
     → IsDeclared decls.declarations named
     → (named_in decls.declarations kind (unwrap_or (name_of decls.declarations named) []) ≡ Ok named)
     × (is_name (unwrap_or (name_of decls.declarations named) []) ≡ true)

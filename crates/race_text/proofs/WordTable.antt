@@ -2,16 +2,16 @@
 use Rattle.std.proofs.Common.{◌≡◌, ℕ, Bool, true, false, if◌then◌else◌, List, [], ◌∷◌, map, Option, Some, None, refl}
 use Rattle.std.proofs.{Common.{sym, ap, ◌∙◌, true≢false}, lemmas.Option.{none-some, same_Some}}
 use Rattle.std.{proofs.lemmas.Slice.Eq.bytes_eq-Decides, specs.{List.list_all, Option.option_and_then, Str.bytes_eq}}
-use Rattle.race_records.specs.declared.{kind.Object.Object, nouns.Noun.Noun, parts.Verb.Verb, version.Version.Version}
-use Rattle.race_records.specs.{Name.is_place_byte, Nouns.object_says, Parts.{since, has_verb, is_in}}
+use Rattle.race_records.specs.declared.{kind.Object.Object, decl_keywords.DeclKeyword.DeclKeyword, operands.OpKeyword.OpKeyword, version.Version.Version}
+use Rattle.race_records.specs.{Name.is_place_byte, DeclKeywords.object_says, Operands.{since, has_op_keyword, is_in}}
 use Rattle.race_text.specs.{declared.form.{Word.Word, TheConstants.WORDS}, Declaring.is_declaration_word, Form.lookup}
 use Rattle.race_text.specs.{Form.{word_named, has_word, as_had, word_in}, Text.object_words}
-use Rattle.race_text.{specs.Writing.{noun_text, number_words, verb_text}, proofs.WordLemmas.both}
+use Rattle.race_text.{specs.Writing.{decl_keyword_text, number_words, op_keyword_text}, proofs.WordLemmas.both}
 
 -- the bytes of a word
 abbrev pub spelled : Word → List ℕ
-spelled (Word.Declares noun) = noun_text noun
-spelled (Word.Does verb) = verb_text verb
+spelled (Word.Declares decl_keyword) = decl_keyword_text decl_keyword
+spelled (Word.Does op_keyword) = op_keyword_text op_keyword
 
 abbrev table : List (List ℕ × Word)
 table = map (λ entry. (entry.0.now, entry.1)) WORDS
@@ -37,15 +37,15 @@ unfolding word_named
 word_is_seen w word h = found_in (λ w word. list_all is_place_byte w) table w word h refl
 
 -- what is spelled is found again
-pub verb_again : (verb : Verb) → word_named (verb_text verb) ≡ Some (Word.Does verb)
+pub op_keyword_again : (op_keyword : OpKeyword) → word_named (op_keyword_text op_keyword) ≡ Some (Word.Does op_keyword)
 unfolding word_named
-verb_again Verb.Go = refl
-verb_again _ = refl
+op_keyword_again OpKeyword.Go = refl
+op_keyword_again _ = refl
 
-pub noun_again : (noun : Noun) → word_named (noun_text noun) ≡ Some (Word.Declares noun)
+pub decl_keyword_again : (decl_keyword : DeclKeyword) → word_named (decl_keyword_text decl_keyword) ≡ Some (Word.Declares decl_keyword)
 unfolding word_named
-noun_again Noun.Goroutine = refl
-noun_again _ = refl
+decl_keyword_again DeclKeyword.Goroutine = refl
+decl_keyword_again _ = refl
 
 -- a word of a version is one of the table, which the version has
 pub word_of_table : (version : Version) (w : List ℕ) (word : Word) → word_in version w ≡ Some word
@@ -74,8 +74,8 @@ declares_in version w h = by (word_named w) refl h
   where
     by : (o : Option Word) → word_named w ≡ o → is_declaration_word o ≡ true → word_in version w ≡ word_named w
     by None e h = absurd (true≢false (sym h))
-    by (Some (Word.Declares noun)) e h = word_of_version version w (Word.Declares noun) e refl ∙ sym e
-    by (Some (Word.Does verb)) e h = absurd (true≢false (sym h))
+    by (Some (Word.Declares decl_keyword)) e h = word_of_version version w (Word.Declares decl_keyword) e refl ∙ sym e
+    by (Some (Word.Does op_keyword)) e h = absurd (true≢false (sym h))
 
 -- a word that declares in a version does so at all
 pub declares_named : (version : Version) (w : List ℕ) → is_declaration_word (word_in version w) ≡ true → is_declaration_word (word_named w) ≡ true
@@ -86,25 +86,25 @@ declares_named version w h = by (word_in version w) refl h
     by (Some word) e h = ap is_declaration_word (word_of_table version w word e).0 ∙ h
 
 -- what is spelled is found again in the versions that have it, and in no other
-pub noun_known : (version : Version) (noun : Noun) → word_in version (noun_text noun) ≡ Some (Word.Declares noun)
-noun_known version noun = word_of_version version (noun_text noun) (Word.Declares noun) (noun_again noun) refl
+pub decl_keyword_known : (version : Version) (decl_keyword : DeclKeyword) → word_in version (decl_keyword_text decl_keyword) ≡ Some (Word.Declares decl_keyword)
+decl_keyword_known version decl_keyword = word_of_version version (decl_keyword_text decl_keyword) (Word.Declares decl_keyword) (decl_keyword_again decl_keyword) refl
 
-pub verb_known : (version : Version) (verb : Verb) → has_verb version verb ≡ true → word_in version (verb_text verb) ≡ Some (Word.Does verb)
-verb_known version verb had = word_of_version version (verb_text verb) (Word.Does verb) (verb_again verb) had
+pub op_keyword_known : (version : Version) (op_keyword : OpKeyword) → has_op_keyword version op_keyword ≡ true → word_in version (op_keyword_text op_keyword) ≡ Some (Word.Does op_keyword)
+op_keyword_known version op_keyword had = word_of_version version (op_keyword_text op_keyword) (Word.Does op_keyword) (op_keyword_again op_keyword) had
 
-pub verb_unknown : (version : Version) (verb : Verb) → has_verb version verb ≡ false → word_in version (verb_text verb) ≡ None
+pub op_keyword_unknown : (version : Version) (op_keyword : OpKeyword) → has_op_keyword version op_keyword ≡ false → word_in version (op_keyword_text op_keyword) ≡ None
 unfolding word_in
-verb_unknown version verb lacks =
-    ap (option_and_then (as_had version)) (verb_again verb) ∙ ap (λ b. if b then Some (Word.Does verb) else None) lacks
+op_keyword_unknown version op_keyword lacks =
+    ap (option_and_then (as_had version)) (op_keyword_again op_keyword) ∙ ap (λ b. if b then Some (Word.Does op_keyword) else None) lacks
 
 -- each version has what the first one had
-pub early : (version : Version) (verb : Verb) → since verb ≡ Version.One → has_verb version verb ≡ true
-early Version.One verb e = ap (is_in Version.One) e
-early Version.Two verb e = refl
+pub early : (version : Version) (op_keyword : OpKeyword) → since op_keyword ≡ Version.One → has_op_keyword version op_keyword ≡ true
+early Version.One op_keyword e = ap (is_in Version.One) e
+early Version.Two op_keyword e = refl
 
 -- the words of a declaration are what it says
 pub object_words_are : (name : List ℕ) (object : Object)
-    → object_words name object ≡ noun_text (object_says object).0 ∷ name ∷ number_words (object_says object).1
+    → object_words name object ≡ decl_keyword_text (object_says object).0 ∷ name ∷ number_words (object_says object).1
 object_words_are name Object.Goroutine = refl
 object_words_are name Object.Var = refl
 object_words_are name (Object.Chan capacity) = refl

@@ -53,9 +53,9 @@ visible_line_clean ws visible = joined_clean ws (each ws visible)
     each (w ∷ ws) visible = (visible_clean w visible.0, each ws visible.1)
 
 -- lines without bad bytes are the parts of their text, before an empty one
-pub parts_again : (ls : List (List ℕ)) → AllByRecursion (λ l. has_bad_byte l ≡ false) ls → parts_of (flat_map ended ls) ≡ ls ++ [] ∷ []
-parts_again [] clean = refl
-parts_again (l ∷ ls) clean =
+pub operands_again : (ls : List (List ℕ)) → AllByRecursion (λ l. has_bad_byte l ≡ false) ls → parts_of (flat_map ended ls) ≡ ls ++ [] ∷ []
+operands_again [] clean = refl
+operands_again (l ∷ ls) clean =
     ap parts_of (flat_map-cons ended l ls ∙ append_assoc l (10 ∷ []) (flat_map ended ls))
     ∙ slice_split_at (λ byte. byte == 10) l 10 (flat_map ended ls) (without_newline l clean.0) refl
-    ∙ ap (λ ps. l ∷ ps) (parts_again ls clean.1)
+    ∙ ap (λ ps. l ∷ ps) (operands_again ls clean.1)

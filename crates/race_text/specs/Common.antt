@@ -1,12 +1,12 @@
 -- A line of a common word, read from the bytes from it on.
 use Rattle.std.specs.Prelude.{◌≡◌, ℕ, ◌≤◌, Bool, true, false, not, List, [], ◌∷◌, ◌++◌, length, take, map, Option, Some}
 use Rattle.std.specs.{Prelude.None, Borrow.Bor, List.list_all, Simd.Lanes.{chunk, mask_l}}
-use Rattle.race_records.specs.declared.{event.{Event.Event, Op.Op}, kind.{Kind.Kind, Named.Named}, parts.Part.Part}
-use Rattle.race_records.specs.declared.{parts.{PartKind.PartKind, Verb.Verb}, version.Version.Version}
-use Rattle.race_records.specs.{Name.is_place_byte, Declarations.Declaration, Parts.{part_kinds, has_two_places}}
+use Rattle.race_records.specs.declared.{event.{Event.Event, Op.Op}, kind.{Kind.Kind, Named.Named}, operands.Operand.Operand}
+use Rattle.race_records.specs.declared.{operands.{OperandKind.OperandKind, OpKeyword.OpKeyword}, version.Version.Version}
+use Rattle.race_records.specs.{Name.is_place_byte, Declarations.Declaration, Operands.{operand_kinds, has_two_places}}
 use Rattle.race_text.specs.declared.{cause.TextCause.TextCause, common.{Deed.Deed, Said.Said}}
 use Rattle.race_text.specs.{Words.{parts_of, words_of}, Form.{first_word, arguments}, Lines.GoesOn, Owed.owed}
-use Rattle.race_text.specs.{Fault.{cause, trace_causes}, Reading.{Occurrence, occurrence, first_part, parts_on, op_in}}
+use Rattle.race_text.specs.{Fault.{cause, trace_causes}, Reading.{Occurrence, occurrence, first_operand, operands_on, op_in}}
 use Rattle.race_text.specs.Reading.{last_place, event_behind, event_in}
 
 -- so many bytes in front are marked: a bit for each, which is set where the byte can't be seen
@@ -34,53 +34,53 @@ pub record CutsWord (bytes : List ℕ) (len : ℕ) (rest : List ℕ) : Type 0 wh
   pub behind : parts_behind bytes ≡ parts_behind rest
 
 -- the line is an event of this word, which each version has, and what it says stands in front of the rest
-pub record SaysVerb (bytes : List ℕ) (verb : Verb) (rest : List ℕ) : Type 0 where
-  pub says : (version : Version) (ds : List Declaration) → event_in version ds (words_in bytes) ≡ event_behind ds verb (words_in rest)
+pub record SaysKeyword (bytes : List ℕ) (keyword : OpKeyword) (rest : List ℕ) : Type 0 where
+  pub says : (version : Version) (ds : List Declaration) → event_in version ds (words_in bytes) ≡ event_behind ds keyword (words_in rest)
   pub behind : parts_behind bytes ≡ parts_behind rest
 
 -- an object is wanted
-abbrev pub names_object : PartKind → Bool
-names_object (PartKind.Object kind) = true
-names_object PartKind.RwMutex = true
+abbrev pub names_object : OperandKind → Bool
+names_object (OperandKind.Object kind) = true
+names_object OperandKind.RwMutex = true
 names_object _ = false
 
 -- of which kind the object is that stands behind the goroutine
-abbrev pub object_kind : Verb → PartKind
-object_kind Verb.Read = PartKind.Object Kind.Var
-object_kind Verb.Write = PartKind.Object Kind.Var
-object_kind Verb.Send = PartKind.Object Kind.Chan
-object_kind Verb.Recv = PartKind.Object Kind.Chan
-object_kind Verb.Lock = PartKind.Object Kind.Lock
-object_kind Verb.Unlock = PartKind.Object Kind.Lock
-object_kind Verb.RLock = PartKind.RwMutex
-object_kind Verb.RUnlock = PartKind.RwMutex
-object_kind Verb.OnceDone = PartKind.Object Kind.Once
-object_kind _ = PartKind.Value
+abbrev pub object_kind : OpKeyword → OperandKind
+object_kind OpKeyword.Read = OperandKind.Object Kind.Var
+object_kind OpKeyword.Write = OperandKind.Object Kind.Var
+object_kind OpKeyword.Send = OperandKind.Object Kind.Chan
+object_kind OpKeyword.Recv = OperandKind.Object Kind.Chan
+object_kind OpKeyword.Lock = OperandKind.Object Kind.Lock
+object_kind OpKeyword.Unlock = OperandKind.Object Kind.Lock
+object_kind OpKeyword.RLock = OperandKind.RwMutex
+object_kind OpKeyword.RUnlock = OperandKind.RwMutex
+object_kind OpKeyword.OnceDone = OperandKind.Object Kind.Once
+object_kind _ = OperandKind.Value
 
 -- the first word names an object of this kind
-pub record SaysObject (ds : List Declaration) (kind : PartKind) (bytes : List ℕ) (named : Named) (rest : List ℕ) : Type 0 where
-  pub says : first_part ds kind (words_in bytes) ≡ Some (Part.Object named, words_in rest)
+pub record SaysObject (ds : List Declaration) (kind : OperandKind) (bytes : List ℕ) (named : Named) (rest : List ℕ) : Type 0 where
+  pub says : first_operand ds kind (words_in bytes) ≡ Some (Operand.Object named, words_in rest)
   pub behind : parts_behind bytes ≡ parts_behind rest
 
 -- a value, where one is wanted
-abbrev pub value_kinds : Bool → List PartKind
-value_kinds true = PartKind.Value ∷ []
+abbrev pub value_kinds : Bool → List OperandKind
+value_kinds true = OperandKind.Value ∷ []
 value_kinds false = []
 
-abbrev pub value_parts : Option ℕ → List Part
-value_parts (Some v) = Part.Value v ∷ []
-value_parts None = []
+abbrev pub value_operands : Option ℕ → List Operand
+value_operands (Some v) = Operand.Value v ∷ []
+value_operands None = []
 
 pub record SaysValue (wanted : Bool) (bytes : List ℕ) (value : Option ℕ) (rest : List ℕ) : Type 0 where
-  pub says : (ds : List Declaration) (parts : List Part)
-      → parts_on ds parts (value_kinds wanted) (words_in bytes) ≡ Some (parts ++ value_parts value, words_in rest)
+  pub says : (ds : List Declaration) (operands : List Operand)
+      → operands_on ds operands (value_kinds wanted) (words_in bytes) ≡ Some (operands ++ value_operands value, words_in rest)
   pub behind : parts_behind bytes ≡ parts_behind rest
 
 -- the words in front of the rest say what an operation with one place does
-pub record SaysDeed (ds : List Declaration) (verb : Verb) (bytes : List ℕ) (op : Op) (rest : List ℕ) : Type 0 where
-  pub says : op_in ds verb (part_kinds verb) (words_in bytes) ≡ Some (op, words_in rest)
+pub record SaysDeed (ds : List Declaration) (keyword : OpKeyword) (bytes : List ℕ) (op : Op) (rest : List ℕ) : Type 0 where
+  pub says : op_in ds keyword (operand_kinds keyword) (words_in bytes) ≡ Some (op, words_in rest)
   pub behind : parts_behind bytes ≡ parts_behind rest
-  pub one_place : has_two_places verb ≡ false
+  pub one_place : has_two_places keyword ≡ false
 
 -- the one word that is left is a place, and a newline stands between it and the rest
 pub record SaysPlace (bytes place rest : List ℕ) : Type 0 where

@@ -4,11 +4,11 @@ use Rattle.std.specs.{Prelude.{length, count_by, fold, Option, Some, None, is_so
 use Rattle.std.specs.{Option.{option_and_then, option_map}, Result.result_err, Str.{bytes_eq, Parse.digits_value}}
 use Rattle.race_records.specs.declared.{kind.{Kind.Kind, Object.Object}, trace.TheConstants.MAX_EVENTS}
 use Rattle.race_records.specs.{declared.version.Version.Version, Name.is_name, Declarations.{Declaration, find_name}}
-use Rattle.race_records.specs.{Declarations.{count_of, limit_of}, Nouns.object_by}
+use Rattle.race_records.specs.{Declarations.{count_of, limit_of}, DeclKeywords.object_by}
 use Rattle.race_text.specs.declared.{cause.{TextCause.TextCause, TextFault.TextFault}, form.{Word.Word, Field.Field}}
 use Rattle.race_text.specs.{Words.{words_of, has_bad_byte}, Lines.{Causes, first_fault}, Text.header, Form.word_named}
 use Rattle.race_text.specs.{Form.{word_in, fields_of, kind_declared, first_word, arguments}, Least.lesser}
-use Rattle.race_text.specs.Meaning.{number_in, place_in, part_in}
+use Rattle.race_text.specs.Meaning.{number_in, place_in, operand_in}
 
 -- a later cause, looked at where no earlier one holds
 abbrev pub or_else : Option TextCause → Option TextCause → Option TextCause
@@ -35,7 +35,7 @@ number_behind (w ∷ others) = Some (digits_value 10 w)
 
 -- what the words of a line declare, by the first one and the others
 abbrev pub declared_as : Option Word → List (List ℕ) → Option Declaration
-declared_as (Some (Word.Declares noun)) (name ∷ others) = option_map (declaration name) (object_by noun (number_behind others))
+declared_as (Some (Word.Declares keyword)) (name ∷ others) = option_map (declaration name) (object_by keyword (number_behind others))
 declared_as _ _ = None
 
 -- what a line declares, where its first word declares anything
@@ -66,7 +66,7 @@ new_name_cause ds w =
 unfoldable pub field_cause : List Declaration → Field → List ℕ → Option TextCause
 field_cause ds Field.NewName w = new_name_cause ds w
 field_cause ds (Field.Number limit) w = result_err (number_in limit w)
-field_cause ds (Field.Part kind) w = result_err (part_in ds kind w)
+field_cause ds (Field.Operand kind) w = result_err (operand_in ds kind w)
 field_cause ds Field.Place w = result_err (place_in w)
 
 -- the least cause of them all

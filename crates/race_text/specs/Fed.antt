@@ -102,6 +102,11 @@ module _ (causes : Causes) where
   abbrev pub HidesNoneOf : (List (List ℕ) → Type 0) → List ℕ → TextFault → Type 0
   HidesNoneOf Stood bytes told = (whole : List ℕ) → TakesSome Stood whole bytes → HidesNone told (ended_fault whole)
 
+  -- both
+  pub record TellsOfWhole (Stood : List (List ℕ) → Type 0) (bytes : List ℕ) (fault : TextFault) : Type 0 where
+    pub told : TellsOfBytes Stood bytes fault
+    pub owed : HidesNoneOf Stood bytes fault
+
   -- what is owed of a line behind these, with its number
   pub record TellsOfLine (line : List ℕ) (told : TextFault) (lines : List (List ℕ)) : Type 0 where
     pub number : told.line ≡ length lines + 1

@@ -1,10 +1,10 @@
 -- The laws of trace text, which functions of src/laws.rt that do nothing have as their contracts.
 use Rattle.std.specs.Prelude.{◌≡◌, ℕ, true, false, List, ◌∷◌, ◌++◌, Some, None}
-use Rattle.race_records.specs.declared.{event.Op.Op, kind.Object.Object, nouns.Noun.Noun, parts.Verb.Verb}
+use Rattle.race_records.specs.declared.{event.Op.Op, kind.Object.Object, decl_keywords.DeclKeyword.DeclKeyword, operands.OpKeyword.OpKeyword}
 use Rattle.race_records.specs.{declared.version.Version.Version, Declarations.Declaration, Events.TraceState}
-use Rattle.race_records.specs.{Nouns.object_says, Parts.{says, has_verb}, TraceEquality.recorded}
-use Rattle.race_text.specs.{declared.{cause.TextFault.TextFault, form.Word.Word}, Form.word_in, Writing.noun_text}
-use Rattle.race_text.specs.{Writing.{number_words, verb_text, said_words}, Text.{header, object_words, op_words, text}}
+use Rattle.race_records.specs.{DeclKeywords.object_says, Operands.{says, has_op_keyword}, TraceEquality.recorded}
+use Rattle.race_text.specs.{declared.{cause.TextFault.TextFault, form.Word.Word}, Form.word_in, Writing.decl_keyword_text}
+use Rattle.race_text.specs.{Writing.{number_words, op_keyword_text, said_words}, Text.{header, object_words, op_words, text}}
 use Rattle.race_text.specs.{Text.{HasText, IsTextOf, IsTraceText}, Fault.{version_said, trace_causes, text_fault}}
 use Rattle.race_text.specs.Fed.{ended_fault}
 
@@ -17,12 +17,12 @@ IsOnlyTraceOf bytes t = (u : TraceState) → IsTextOf u bytes → recorded u ≡
 -- that have it, and in no other; and each header says its version
 pub record LinesFollowTheTables : Type 0 where
   pub declarations : (name : List ℕ) (object : Object)
-      → object_words name object ≡ noun_text (object_says object).0 ∷ name ∷ number_words (object_says object).1
+      → object_words name object ≡ decl_keyword_text (object_says object).0 ∷ name ∷ number_words (object_says object).1
   pub events : (ds : List Declaration) (who : List ℕ) (places : List (List ℕ)) (op : Op)
       → op_words ds who places op ≡ said_words ds who places (says op).0 (says op).1
-  pub noun_known : (version : Version) (noun : Noun) → word_in version (noun_text noun) ≡ Some (Word.Declares noun)
-  pub verb_known : (version : Version) (verb : Verb) → has_verb version verb ≡ true → word_in version (verb_text verb) ≡ Some (Word.Does verb)
-  pub verb_unknown : (version : Version) (verb : Verb) → has_verb version verb ≡ false → word_in version (verb_text verb) ≡ None
+  pub decl_keyword_known : (version : Version) (decl_keyword : DeclKeyword) → word_in version (decl_keyword_text decl_keyword) ≡ Some (Word.Declares decl_keyword)
+  pub op_keyword_known : (version : Version) (op_keyword : OpKeyword) → has_op_keyword version op_keyword ≡ true → word_in version (op_keyword_text op_keyword) ≡ Some (Word.Does op_keyword)
+  pub op_keyword_unknown : (version : Version) (op_keyword : OpKeyword) → has_op_keyword version op_keyword ≡ false → word_in version (op_keyword_text op_keyword) ≡ None
   pub header_known : (version : Version) → version_said (header version) ≡ Some version
 
 -- the text of a trace has no fault

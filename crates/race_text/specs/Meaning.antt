@@ -2,7 +2,7 @@
 use Rattle.std.specs.Prelude.{ℕ, ◌-◌, ◌^◌, not, nat_le, List, [], ◌∷◌, ◌++◌, length, fold, if◌then◌else◌, Option, Some}
 use Rattle.std.specs.{Prelude.{None, ok_or, Result, Ok, Err}, Str.bytes_eq}
 use Rattle.race_records.specs.declared.{cases.{Case.Case, Dir.Dir, TheConstants.MAX_CASES}, event.Cause.Cause}
-use Rattle.race_records.specs.declared.{kind.{Kind.Kind, Named.Named}, parts.{Part.Part, PartKind.PartKind}}
+use Rattle.race_records.specs.declared.{kind.{Kind.Kind, Named.Named}, operands.{Operand.Operand, OperandKind.OperandKind}}
 use Rattle.race_records.specs.{Name.{is_name, is_place}, Declarations.{Declaration, find_name, number_of}}
 use Rattle.race_text.specs.{declared.cause.TextCause.TextCause, Words.number, Form.is_wanted}
 use Rattle.race_text.specs.{Least.{then_says, says_by, both_say}, Select.{no_cases, nil, close_nil, pieces_of}}
@@ -17,11 +17,11 @@ abbrev pub value_in : List ℕ → Result ℕ TextCause
 value_in w = number_in (2 ^ 64 - 1) w
 
 -- this object, where it is of the kind that is wanted
-abbrev pub as_wanted : List Declaration → PartKind → Named → Result Named TextCause
+abbrev pub as_wanted : List Declaration → OperandKind → Named → Result Named TextCause
 as_wanted ds kind named = if is_wanted ds kind named then Ok named else Err TextCause.WrongKind
 
 -- what is declared by the name
-abbrev pub named_in : List Declaration → PartKind → List ℕ → Result Named TextCause
+abbrev pub named_in : List Declaration → OperandKind → List ℕ → Result Named TextCause
 named_in ds kind w =
     if not (is_name w) then Err TextCause.BadName else then_says (as_wanted ds kind) (ok_or (find_name ds w) TextCause.Unknown)
 
@@ -31,7 +31,7 @@ chan_of named = Some (number_of named)
 
 -- a channel, or nil
 abbrev pub chan_in : List Declaration → List ℕ → Result (Option ℕ) TextCause
-chan_in ds w = if bytes_eq w nil then Ok None else says_by chan_of (named_in ds (PartKind.Object Kind.Chan) w)
+chan_in ds w = if bytes_eq w nil then Ok None else says_by chan_of (named_in ds (OperandKind.Object Kind.Chan) w)
 
 -- what is said so far with one more behind it, where there is room for it
 abbrev pub with_piece : {A : Type 0} → List A → A → Result (List A) TextCause
@@ -73,10 +73,10 @@ failure_in ds w =
 abbrev pub place_in : List ℕ → Result (List ℕ) TextCause
 place_in w = if is_place w then Ok w else Err TextCause.BadName
 
--- a part of this kind
-abbrev pub part_in : List Declaration → PartKind → List ℕ → Result Part TextCause
-part_in ds (PartKind.Object kind) w = says_by Part.Object (named_in ds (PartKind.Object kind) w)
-part_in ds PartKind.RwMutex w = says_by Part.Object (named_in ds PartKind.RwMutex w)
-part_in ds PartKind.Value w = says_by Part.Value (value_in w)
-part_in ds PartKind.Cases w = says_by Part.Cases (cases_in ds w)
-part_in ds PartKind.Cause w = says_by Part.Cause (failure_in ds w)
+-- an operand of this kind
+abbrev pub operand_in : List Declaration → OperandKind → List ℕ → Result Operand TextCause
+operand_in ds (OperandKind.Object kind) w = says_by Operand.Object (named_in ds (OperandKind.Object kind) w)
+operand_in ds OperandKind.RwMutex w = says_by Operand.Object (named_in ds OperandKind.RwMutex w)
+operand_in ds OperandKind.Value w = says_by Operand.Value (value_in w)
+operand_in ds OperandKind.Cases w = says_by Operand.Cases (cases_in ds w)
+operand_in ds OperandKind.Cause w = says_by Operand.Cause (failure_in ds w)

@@ -2,11 +2,11 @@
 use Rattle.std.specs.Prelude.{ℕ, Bool, true, false, List, [], ◌∷◌, ◌++◌, if◌then◌else◌, Option, Some, None}
 use Rattle.std.specs.{Borrow.Bor, Option.{option_and_then, option_map}, Result.result_ok}
 use Rattle.arrayvec.specs.ArrayVec.{ArrayVec}
-use Rattle.race_records.specs.declared.{event.Op.Op, kind.{Kind.Kind, Named.Named}, parts.Part.Part}
-use Rattle.race_records.specs.{declared.{parts.{PartKind.PartKind, Verb.Verb}, version.Version.Version}, Name.is_place}
-use Rattle.race_records.specs.{Declarations.Declaration, Parts.{op_by, part_kinds, has_two_places}}
+use Rattle.race_records.specs.declared.{event.Op.Op, kind.{Kind.Kind, Named.Named}, operands.Operand.Operand}
+use Rattle.race_records.specs.{declared.{operands.{OperandKind.OperandKind, OpKeyword.OpKeyword}, version.Version.Version}, Name.is_place}
+use Rattle.race_records.specs.{Declarations.Declaration, Operands.{op_by, operand_kinds, has_two_places}}
 use Rattle.race_text.specs.{declared.{event.Draft.Draft, form.Word.Word}, Words.parts_left, Form.word_in}
-use Rattle.race_text.specs.Meaning.{part_in}
+use Rattle.race_text.specs.Meaning.{operand_in}
 
 -- an event with its places as they are spelled
 pub record Occurrence : Type 0 where
@@ -19,7 +19,7 @@ pub record Occurrence : Type 0 where
 abbrev pub Places : Type 0
 Places = List ℕ × Option (List ℕ)
 
--- an event by its parts
+-- an event by its operands
 abbrev pub occurrence : ℕ → Op → Places → Occurrence
 occurrence who op places = record { who = who; op = op; place = places.0; place2 = places.1 }
 
@@ -31,38 +31,38 @@ places_read places = (places.0.now, option_map (λ place. place.now) places.1)
 abbrev pub drafted : Draft → Occurrence
 drafted draft = occurrence draft.who draft.op (places_read (draft.place, draft.place2))
 
--- a part that was read, and the words behind it
-abbrev pub ReadPart : Type 0
-ReadPart = Part × List (List ℕ)
+-- an operand that was read, and the words behind it
+abbrev pub ReadOperand : Type 0
+ReadOperand = Operand × List (List ℕ)
 
--- parts that were read, and the words behind them
-abbrev pub ReadParts : Type 0
-ReadParts = List Part × List (List ℕ)
+-- operands that were read, and the words behind them
+abbrev pub ReadOperands : Type 0
+ReadOperands = List Operand × List (List ℕ)
 
--- a part, before the words that are left
-abbrev pub with_rest : List (List ℕ) → Part → ReadPart
-with_rest rest part = (part, rest)
+-- an operand, before the words that are left
+abbrev pub with_rest : List (List ℕ) → Operand → ReadOperand
+with_rest rest operand = (operand, rest)
 
--- a part, or parts, before what is left of the line in the code
-abbrev pub part_so_far : Part × Option (Bor (List ℕ)) → ReadPart
-part_so_far step = (step.0, parts_left 32 step.1)
+-- an operand, or operands, before what is left of the line in the code
+abbrev pub operand_so_far : Operand × Option (Bor (List ℕ)) → ReadOperand
+operand_so_far step = (step.0, parts_left 32 step.1)
 
-abbrev pub parts_so_far : ArrayVec Part × Option (Bor (List ℕ)) → ReadParts
-parts_so_far step = (step.0.items, parts_left 32 step.1)
+abbrev pub operands_so_far : ArrayVec Operand × Option (Bor (List ℕ)) → ReadOperands
+operands_so_far step = (step.0.items, parts_left 32 step.1)
 
--- the first word as a part
-abbrev pub first_part : List Declaration → PartKind → List (List ℕ) → Option ReadPart
-first_part ds kind [] = None
-first_part ds kind (w ∷ ws) = option_map (with_rest ws) (result_ok (part_in ds kind w))
+-- the first word as an operand
+abbrev pub first_operand : List Declaration → OperandKind → List (List ℕ) → Option ReadOperand
+first_operand ds kind [] = None
+first_operand ds kind (w ∷ ws) = option_map (with_rest ws) (result_ok (operand_in ds kind w))
 
--- the parts so far, and behind them a part for each of these kinds
-abbrev pub parts_on : List Declaration → List Part → List PartKind → List (List ℕ) → Option ReadParts
-parts_on ds parts [] words = Some (parts, words)
-parts_on ds parts (kind ∷ kinds) words = option_and_then (λ first. parts_on ds (parts ++ first.0 ∷ []) kinds first.1) (first_part ds kind words)
+-- the operands so far, and behind them an operand for each of these kinds
+abbrev pub operands_on : List Declaration → List Operand → List OperandKind → List (List ℕ) → Option ReadOperands
+operands_on ds operands [] words = Some (operands, words)
+operands_on ds operands (kind ∷ kinds) words = option_and_then (λ first. operands_on ds (operands ++ first.0 ∷ []) kinds first.1) (first_operand ds kind words)
 
 -- the number of a goroutine
-abbrev pub goroutine_of : Part → Option ℕ
-goroutine_of (Part.Object (Named.Goroutine n)) = Some n
+abbrev pub goroutine_of : Operand → Option ℕ
+goroutine_of (Operand.Object (Named.Goroutine n)) = Some n
 goroutine_of _ = None
 
 -- a place, and the words behind it
@@ -108,27 +108,27 @@ op_so_far step = (step.0, parts_left 32 step.1)
 abbrev pub op_before : List (List ℕ) → Op → ReadOp
 op_before rest op = (op, rest)
 
--- the operation of the word whose parts are of these kinds, as the first words say it
-abbrev pub op_in : List Declaration → Verb → List PartKind → List (List ℕ) → Option ReadOp
-op_in ds verb kinds words = option_and_then (λ parts. option_map (op_before parts.1) (op_by verb parts.0)) (parts_on ds [] kinds words)
+-- the operation of the word whose operands are of these kinds, as the first words say it
+abbrev pub op_in : List Declaration → OpKeyword → List OperandKind → List (List ℕ) → Option ReadOp
+op_in ds keyword kinds words = option_and_then (λ operands. option_map (op_before operands.1) (op_by keyword operands.0)) (operands_on ds [] kinds words)
 
 -- what the words behind the goroutine say
-abbrev pub event_of : List Declaration → Verb → ℕ → List (List ℕ) → Option Occurrence
-event_of ds verb who words =
-    option_and_then (λ read. option_map (occurrence who read.0) (last_places (has_two_places verb) read.1))
-    (op_in ds verb (part_kinds verb) words)
+abbrev pub event_of : List Declaration → OpKeyword → ℕ → List (List ℕ) → Option Occurrence
+event_of ds keyword who words =
+    option_and_then (λ read. option_map (occurrence who read.0) (last_places (has_two_places keyword) read.1))
+    (op_in ds keyword (operand_kinds keyword) words)
 
 -- what the words behind the word of an operation say
-abbrev pub event_behind : List Declaration → Verb → List (List ℕ) → Option Occurrence
-event_behind ds verb words =
-    option_and_then (λ first. option_and_then (λ who. event_of ds verb who first.1) (goroutine_of first.0))
-    (first_part ds (PartKind.Object Kind.Goroutine) words)
+abbrev pub event_behind : List Declaration → OpKeyword → List (List ℕ) → Option Occurrence
+event_behind ds keyword words =
+    option_and_then (λ first. option_and_then (λ who. event_of ds keyword who first.1) (goroutine_of first.0))
+    (first_operand ds (OperandKind.Object Kind.Goroutine) words)
 
 -- what the words behind a first word say
 abbrev pub event_by : List Declaration → Option Word → List (List ℕ) → Option Occurrence
 event_by ds None words = None
 event_by ds (Some (Word.Declares object)) words = None
-event_by ds (Some (Word.Does verb)) words = event_behind ds verb words
+event_by ds (Some (Word.Does keyword)) words = event_behind ds keyword words
 
 -- what a line says, by its words, in a text of this version
 abbrev pub event_in : Version → List Declaration → List (List ℕ) → Option Occurrence

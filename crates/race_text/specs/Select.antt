@@ -3,7 +3,7 @@ use Rattle.std.specs.Prelude.{ℕ, ◌==◌, if◌then◌else◌, List, [], ◌�
 use Rattle.std.specs.{List.slice_split, Str.bytes_eq}
 use Rattle.race_records.specs.declared.{cases.Dir.Dir, event.Cause.{Cause, TheVariants.{SendClosed, CloseClosed}}}
 use Rattle.race_records.specs.declared.{event.Cause.TheVariants.{UnlockFree, RUnlockFree}, kind.Kind.Kind}
-use Rattle.race_records.specs.{declared.{kind.Named.Named, parts.PartKind.PartKind}, Declarations.number_of}
+use Rattle.race_records.specs.{declared.{kind.Named.Named, operands.OperandKind.OperandKind}, Declarations.number_of}
 use Rattle.race_text.specs.declared.select.{Attempt.Attempt, TheConstants.ATTEMPTS}
 
 -- the word of no case
@@ -59,11 +59,11 @@ abbrev pub failure_spelled : List ℕ → Option SpelledFailure
 failure_spelled word = failure_among (map (λ entry. (entry.0.now, entry.1)) ATTEMPTS) word
 
 -- what this can fail at
-abbrev pub kind_tried : Attempt → PartKind
-kind_tried Attempt.Send = PartKind.Object Kind.Chan
-kind_tried Attempt.Close = PartKind.Object Kind.Chan
-kind_tried Attempt.Unlock = PartKind.Object Kind.Lock
-kind_tried Attempt.RUnlock = PartKind.RwMutex
+abbrev pub kind_tried : Attempt → OperandKind
+kind_tried Attempt.Send = OperandKind.Object Kind.Chan
+kind_tried Attempt.Close = OperandKind.Object Kind.Chan
+kind_tried Attempt.Unlock = OperandKind.Object Kind.Lock
+kind_tried Attempt.RUnlock = OperandKind.RwMutex
 
 -- the cause of a run that failed when it tried this with the object
 abbrev pub cause_by : Attempt → Named → Cause

@@ -4,7 +4,7 @@ use Rattle.std.specs.{Prelude.{is_some, IfSome, Result, Ok, Err}, Borrow.Bor, Op
 use Rattle.race_records.specs.declared.{event.Event.Event, kind.Kind.Kind, trace.TheConstants.MAX_EVENTS}
 use Rattle.race_records.specs.{Name.is_place, Declarations.{DeclsState, count_of, place_number, with_place}}
 use Rattle.race_records.specs.Events.{TraceState, op_fits, has_op, lock_fits, op_is_limited}
-use Rattle.race_records.specs.Parts.{says, has_two_places}
+use Rattle.race_records.specs.Operands.{says, has_two_places}
 use Rattle.race_text.specs.{declared.cause.TextCause.TextCause, Owed.owed, Text.{HasText, lines}, Fault.Seen}
 use Rattle.race_text.specs.{Fault.{seen_so_far, seen, cause}, Reading.Occurrence, Common.{GoesOnIfTold, TellsOfCommon}}
 

@@ -1,7 +1,7 @@
 -- Pieces of a trace's text.
 use Rattle.std.specs.Prelude.{ℕ, zero, suc, List, [], ◌∷◌, ◌++◌, map, codes, slice_get, unwrap_or, Option, Some, None}
 use Rattle.std.specs.{Fmt.decimal, List.flat_map}
-use Rattle.race_records.specs.declared.{event.Event.Event, nouns.Noun.Noun, parts.{Part.Part, Verb.Verb}}
+use Rattle.race_records.specs.declared.{event.Event.Event, decl_keywords.DeclKeyword.DeclKeyword, operands.{Operand.Operand, OpKeyword.OpKeyword}}
 use Rattle.race_records.specs.Declarations.{Declaration, DeclsState, name_of}
 use Rattle.race_text.specs.Text.{ended, cases_text, failure_text, declaration_line, event_line}
 
@@ -26,13 +26,13 @@ abbrev pub declaration_text : List Declaration → ℕ → List ℕ
 declaration_text ds i = text_of (slice_get ds i)
 
 -- the word of a declaration
-abbrev pub noun_text : Noun → List ℕ
-noun_text Noun.Goroutine = codes "goroutine"
-noun_text Noun.Var = codes "var"
-noun_text Noun.Chan = codes "chan"
-noun_text Noun.Mutex = codes "mutex"
-noun_text Noun.RwMutex = codes "rwmutex"
-noun_text Noun.Once = codes "once"
+abbrev pub decl_keyword_text : DeclKeyword → List ℕ
+decl_keyword_text DeclKeyword.Goroutine = codes "goroutine"
+decl_keyword_text DeclKeyword.Var = codes "var"
+decl_keyword_text DeclKeyword.Chan = codes "chan"
+decl_keyword_text DeclKeyword.Mutex = codes "mutex"
+decl_keyword_text DeclKeyword.RwMutex = codes "rwmutex"
+decl_keyword_text DeclKeyword.Once = codes "once"
 
 -- the word of the number behind a name, where there is one
 abbrev pub number_words : Option ℕ → List (List ℕ)
@@ -45,35 +45,35 @@ number_end None = 10 ∷ []
 number_end (Some n) = 32 ∷ decimal n ++ 10 ∷ []
 
 -- the word of an operation
-abbrev pub verb_text : Verb → List ℕ
-verb_text Verb.Go = codes "go"
-verb_text Verb.Exit = codes "exit"
-verb_text Verb.Read = codes "read"
-verb_text Verb.Write = codes "write"
-verb_text Verb.Send = codes "send"
-verb_text Verb.Recv = codes "recv"
-verb_text Verb.Meet = codes "meet"
-verb_text Verb.RecvClosed = codes "recvclosed"
-verb_text Verb.Close = codes "close"
-verb_text Verb.Default = codes "default"
-verb_text Verb.Lock = codes "lock"
-verb_text Verb.Unlock = codes "unlock"
-verb_text Verb.RLock = codes "rlock"
-verb_text Verb.RUnlock = codes "runlock"
-verb_text Verb.TryLock = codes "trylock"
-verb_text Verb.TryRLock = codes "tryrlock"
-verb_text Verb.TryFail = codes "tryfail"
-verb_text Verb.OnceBegin = codes "oncebegin"
-verb_text Verb.OnceEnd = codes "onceend"
-verb_text Verb.OnceDone = codes "oncedone"
-verb_text Verb.Fault = codes "fault"
+abbrev pub op_keyword_text : OpKeyword → List ℕ
+op_keyword_text OpKeyword.Go = codes "go"
+op_keyword_text OpKeyword.Exit = codes "exit"
+op_keyword_text OpKeyword.Read = codes "read"
+op_keyword_text OpKeyword.Write = codes "write"
+op_keyword_text OpKeyword.Send = codes "send"
+op_keyword_text OpKeyword.Recv = codes "recv"
+op_keyword_text OpKeyword.Meet = codes "meet"
+op_keyword_text OpKeyword.RecvClosed = codes "recvclosed"
+op_keyword_text OpKeyword.Close = codes "close"
+op_keyword_text OpKeyword.Default = codes "default"
+op_keyword_text OpKeyword.Lock = codes "lock"
+op_keyword_text OpKeyword.Unlock = codes "unlock"
+op_keyword_text OpKeyword.RLock = codes "rlock"
+op_keyword_text OpKeyword.RUnlock = codes "runlock"
+op_keyword_text OpKeyword.TryLock = codes "trylock"
+op_keyword_text OpKeyword.TryRLock = codes "tryrlock"
+op_keyword_text OpKeyword.TryFail = codes "tryfail"
+op_keyword_text OpKeyword.OnceBegin = codes "oncebegin"
+op_keyword_text OpKeyword.OnceEnd = codes "onceend"
+op_keyword_text OpKeyword.OnceDone = codes "oncedone"
+op_keyword_text OpKeyword.Fault = codes "fault"
 
--- what is printed of a part
-abbrev pub part_text : List Declaration → Part → List ℕ
-part_text ds (Part.Object named) = unwrap_or (name_of ds named) []
-part_text ds (Part.Value v) = decimal v
-part_text ds (Part.Cases cases) = cases_text ds cases
-part_text ds (Part.Cause cause) = failure_text ds cause
+-- what is printed of an operand
+abbrev pub operand_text : List Declaration → Operand → List ℕ
+operand_text ds (Operand.Object named) = unwrap_or (name_of ds named) []
+operand_text ds (Operand.Value v) = decimal v
+operand_text ds (Operand.Cases cases) = cases_text ds cases
+operand_text ds (Operand.Cause cause) = failure_text ds cause
 
 -- what stands before case k: a space, or a comma
 abbrev pub separator : ℕ → ℕ
@@ -81,15 +81,15 @@ separator zero = 32
 separator (suc k) = 44
 
 -- the words that an operation says, before those of its places
-abbrev pub said_words : List Declaration → List ℕ → List (List ℕ) → Verb → List Part → List (List ℕ)
-said_words ds who places verb parts = verb_text verb ∷ who ∷ map (part_text ds) parts ++ places
+abbrev pub said_words : List Declaration → List ℕ → List (List ℕ) → OpKeyword → List Operand → List (List ℕ)
+said_words ds who places op_keyword operands = op_keyword_text op_keyword ∷ who ∷ map (operand_text ds) operands ++ places
 
--- a part behind a space, all parts so, and the places behind them
-abbrev pub behind_space : List Declaration → Part → List ℕ
-behind_space ds part = 32 ∷ part_text ds part
+-- an operand behind a space, all operands so, and the places behind them
+abbrev pub behind_space : List Declaration → Operand → List ℕ
+behind_space ds operand = 32 ∷ operand_text ds operand
 
-abbrev pub parts_text : List Declaration → List Part → List ℕ
-parts_text ds parts = flat_map (behind_space ds) parts
+abbrev pub operands_text : List Declaration → List Operand → List ℕ
+operands_text ds operands = flat_map (behind_space ds) operands
 
 abbrev pub place_end : List ℕ → Option (List ℕ) → List ℕ
 place_end place None = 32 ∷ place ++ 10 ∷ []

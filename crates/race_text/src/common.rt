@@ -2,7 +2,7 @@
 //! cut by the marks of those that can't be seen. What isn't read so is left to the reader of lines.
 ghost use Rattle.std.specs.Prelude.{◌≡◌, ◌∷◌, true, false, IfSome};
 ghost use Rattle.race_records.specs.Declarations.{IsWellFormed, IsDeclared};
-ghost use Rattle.race_records.specs.Parts as parts;
+ghost use Rattle.race_records.specs.Operands as operands;
 ghost use Rattle.race_text.specs.Form.{is_wanted};
 ghost use Rattle.race_text.specs.Common as spec;
 
@@ -10,12 +10,12 @@ use crate::event::{goroutine_of, object_in};
 use crate::form::{Word, common_word};
 use crate::lanes::unseen_in_front;
 use crate::number::read_number;
-use race_records::{Decls, Kind, Named, Part, PartKind, Verb};
+use race_records::{Decls, Kind, Named, OpKeyword, Operand, OperandKind};
 use std::alloc::Allocator;
 
 /// The bytes from a word on, of which those in front are marked.
 #[derive(Clone, Copy)]
-pub struct Front<'a> {
+pub struct Cursor<'a> {
     /// The bytes.
     pub bytes: &'a [u8],
     /// A bit for each of the bytes in front: whether it can't be seen.
@@ -71,26 +71,26 @@ pub(crate) fn read_common<'a, A: Allocator>(
         return None;
     }
     let marks = unseen_in_front(bytes);
-    let (verb, front) = next_verb(Front { bytes, marks })?;
-    let (goroutine, front) = next_object(decls, PartKind::Object(Kind::Goroutine), front)?;
-    let who = goroutine_of(Part::Object(goroutine))?;
-    let (deed, front) = next_deed(decls, verb, front)?;
+    let (keyword, front) = next_op_keyword(Cursor { bytes, marks })?;
+    let (goroutine, front) = next_object(decls, OperandKind::Object(Kind::Goroutine), front)?;
+    let who = goroutine_of(Operand::Object(goroutine))?;
+    let (deed, front) = next_deed(decls, keyword, front)?;
     let (place, rest) = last_place(front)?;
     Some((Said { who, deed, place }, rest))
 }
 
 // The word of an operation.
 #[inline(always)]
-fn next_verb(front: Front<'_>) -> Option<(Verb, Front<'_>)>
+fn next_op_keyword(front: Cursor<'_>) -> Option<(OpKeyword, Cursor<'_>)>
     requires { spec.IsMarked front.marks front.bytes.now }
-    ensures says { IfSome result (λ read. spec.SaysVerb front.entry.bytes.now read.0 read.1.bytes.now) }
+    ensures says { IfSome result (λ read. spec.SaysKeyword front.entry.bytes.now read.0 read.1.bytes.now) }
     ensures marked { IfSome result (λ read. spec.IsMarked read.1.marks read.1.bytes.now) }
 {
     let (len, behind) = next_word(front)?;
     match common_word(&front.bytes[..len])? {
         // It has two goroutines and two places.
-        Word::Does(Verb::Meet) => None,
-        Word::Does(verb) => Some((verb, behind)),
+        Word::Does(OpKeyword::Meet) => None,
+        Word::Does(keyword) => Some((keyword, behind)),
         Word::Declares(_) => None,
     }
 }
@@ -99,9 +99,9 @@ fn next_verb(front: Front<'_>) -> Option<(Verb, Front<'_>)>
 #[inline(always)]
 fn next_object<'a, A: Allocator>(
     decls: &Decls<A>,
-    kind: PartKind,
-    front: Front<'a>,
-) -> Option<(Named, Front<'a>)>
+    kind: OperandKind,
+    front: Cursor<'a>,
+) -> Option<(Named, Cursor<'a>)>
     requires decls { IsWellFormed decls.now }
     requires marked { spec.IsMarked front.marks front.bytes.now }
     requires object { spec.names_object kind ≡ true }
@@ -118,28 +118,28 @@ fn next_object<'a, A: Allocator>(
 #[inline(always)]
 fn next_deed<'a, A: Allocator>(
     decls: &Decls<A>,
-    verb: Verb,
-    front: Front<'a>,
-) -> Option<(Deed, Front<'a>)>
+    keyword: OpKeyword,
+    front: Cursor<'a>,
+) -> Option<(Deed, Cursor<'a>)>
     requires decls { IsWellFormed decls.now }
     requires marked { spec.IsMarked front.marks front.bytes.now }
-    ensures says { IfSome result (λ read. spec.SaysDeed decls.now.declarations verb
+    ensures says { IfSome result (λ read. spec.SaysDeed decls.now.declarations keyword
         front.entry.bytes.now (spec.op_of read.0) read.1.bytes.now) }
     ensures marked { IfSome result (λ read. spec.IsMarked read.1.marks read.1.bytes.now) }
 {
-    let has_value = value_wanted(verb)?;
+    let has_value = value_wanted(keyword)?;
     let (object, front) = next_named(decls, front)?;
     let (value, front) = next_value(has_value, front)?;
-    let deed = deed_said(decls, verb, object, value)?;
+    let deed = deed_said(decls, keyword, object, value)?;
     Some((deed, front))
 }
 
 // What the next word names. Whether that is wanted there, the operation tells.
 #[inline(always)]
-fn next_named<'a, A: Allocator>(decls: &Decls<A>, front: Front<'a>) -> Option<(Named, Front<'a>)>
+fn next_named<'a, A: Allocator>(decls: &Decls<A>, front: Cursor<'a>) -> Option<(Named, Cursor<'a>)>
     requires decls { IsWellFormed decls.now }
     requires marked { spec.IsMarked front.marks front.bytes.now }
-    ensures says { IfSome result (λ read. (kind : PartKind) → spec.names_object kind ≡ true
+    ensures says { IfSome result (λ read. (kind : OperandKind) → spec.names_object kind ≡ true
         → is_wanted decls.now.declarations kind read.0 ≡ true
         → spec.SaysObject decls.now.declarations kind front.entry.bytes.now read.0 read.1.bytes.now) }
     ensures declared { IfSome result (λ read. IsDeclared decls.now.declarations read.0) }
@@ -152,7 +152,7 @@ fn next_named<'a, A: Allocator>(decls: &Decls<A>, front: Front<'a>) -> Option<(N
 
 // The value that the next word says, where one is wanted.
 #[inline(always)]
-fn next_value(wanted: bool, front: Front<'_>) -> Option<(Option<u64>, Front<'_>)>
+fn next_value(wanted: bool, front: Cursor<'_>) -> Option<(Option<u64>, Cursor<'_>)>
     requires { spec.IsMarked front.marks front.bytes.now }
     ensures says { IfSome result (λ read. spec.SaysValue wanted
         front.entry.bytes.now read.0 read.1.bytes.now) }
@@ -168,7 +168,7 @@ fn next_value(wanted: bool, front: Front<'_>) -> Option<(Option<u64>, Front<'_>)
 
 // The place that is left of the line, and the bytes behind the newline.
 #[inline(always)]
-fn last_place(front: Front<'_>) -> Option<(&[u8], &[u8])>
+fn last_place(front: Cursor<'_>) -> Option<(&[u8], &[u8])>
     requires { spec.IsMarked front.marks front.bytes.now }
     ensures { IfSome result (λ read. spec.SaysPlace front.entry.bytes.now read.0.now read.1.now) }
 {
@@ -184,7 +184,7 @@ fn last_place(front: Front<'_>) -> Option<(&[u8], &[u8])>
 
 // How long the first word is, and what is left of the line behind it.
 #[inline(always)]
-fn next_word(front: Front<'_>) -> Option<(usize, Front<'_>)>
+fn next_word(front: Cursor<'_>) -> Option<(usize, Cursor<'_>)>
     requires { spec.IsMarked front.marks front.bytes.now }
     ensures cut { IfSome result (λ read. spec.CutsWord front.entry.bytes.now read.0 read.1.bytes.now) }
     ensures marked { IfSome result (λ read. spec.IsMarked read.1.marks read.1.bytes.now) }
@@ -198,7 +198,7 @@ fn next_word(front: Front<'_>) -> Option<(usize, Front<'_>)>
     }
     Some((
         len,
-        Front {
+        Cursor {
             bytes: &front.bytes[len + 1..],
             marks: front.marks >> len >> 1,
         },
@@ -207,14 +207,18 @@ fn next_word(front: Front<'_>) -> Option<(usize, Front<'_>)>
 
 // Whether a value stands behind the goroutine and the object.
 #[inline(always)]
-fn value_wanted(verb: Verb) -> Option<bool>
-    ensures kinds { IfSome result (λ wanted. parts.part_kinds verb ≡ spec.object_kind verb ∷ spec.value_kinds wanted) }
-    ensures object { IfSome result (λ wanted. spec.names_object (spec.object_kind verb) ≡ true) }
-    ensures one_place { IfSome result (λ wanted. parts.has_two_places verb ≡ false) }
+fn value_wanted(keyword: OpKeyword) -> Option<bool>
+    ensures kinds { IfSome result (λ wanted. operands.operand_kinds keyword ≡ spec.object_kind keyword ∷ spec.value_kinds wanted) }
+    ensures object { IfSome result (λ wanted. spec.names_object (spec.object_kind keyword) ≡ true) }
+    ensures one_place { IfSome result (λ wanted. operands.has_two_places keyword ≡ false) }
 {
-    match verb {
-        Verb::Read | Verb::Write | Verb::Send | Verb::Recv => Some(true),
-        Verb::Lock | Verb::Unlock | Verb::RLock | Verb::RUnlock | Verb::OnceDone => Some(false),
+    match keyword {
+        OpKeyword::Read | OpKeyword::Write | OpKeyword::Send | OpKeyword::Recv => Some(true),
+        OpKeyword::Lock
+        | OpKeyword::Unlock
+        | OpKeyword::RLock
+        | OpKeyword::RUnlock
+        | OpKeyword::OnceDone => Some(false),
         _ => None,
     }
 }
@@ -223,26 +227,26 @@ fn value_wanted(verb: Verb) -> Option<bool>
 #[inline(always)]
 fn deed_said<A: Allocator>(
     decls: &Decls<A>,
-    verb: Verb,
+    keyword: OpKeyword,
     object: Named,
     value: Option<u64>,
 ) -> Option<Deed>
     requires { IsDeclared decls.now.declarations object }
     ensures op { IfSome result (λ deed.
-        parts.op_by verb (Part.Object object ∷ spec.value_parts value) ≡ Some (spec.op_of deed)) }
+        operands.op_by keyword (Operand.Object object ∷ spec.value_operands value) ≡ Some (spec.op_of deed)) }
     ensures wanted { IfSome result (λ deed.
-        is_wanted decls.now.declarations (spec.object_kind verb) object ≡ true) }
+        is_wanted decls.now.declarations (spec.object_kind keyword) object ≡ true) }
 {
-    match (verb, object, value) {
-        (Verb::Read, Named::Var(x), Some(v)) => Some(Deed::Read(x, v)),
-        (Verb::Write, Named::Var(x), Some(v)) => Some(Deed::Write(x, v)),
-        (Verb::Send, Named::Chan(c), Some(v)) => Some(Deed::Send(c, v)),
-        (Verb::Recv, Named::Chan(c), Some(v)) => Some(Deed::Recv(c, v)),
-        (Verb::Lock, Named::Lock(l), None) => Some(Deed::Lock(l)),
-        (Verb::Unlock, Named::Lock(l), None) => Some(Deed::Unlock(l)),
-        (Verb::RLock, Named::Lock(l), None) if decls.is_rw(l) => Some(Deed::RLock(l)),
-        (Verb::RUnlock, Named::Lock(l), None) if decls.is_rw(l) => Some(Deed::RUnlock(l)),
-        (Verb::OnceDone, Named::Once(o), None) => Some(Deed::OnceDone(o)),
+    match (keyword, object, value) {
+        (OpKeyword::Read, Named::Var(x), Some(v)) => Some(Deed::Read(x, v)),
+        (OpKeyword::Write, Named::Var(x), Some(v)) => Some(Deed::Write(x, v)),
+        (OpKeyword::Send, Named::Chan(c), Some(v)) => Some(Deed::Send(c, v)),
+        (OpKeyword::Recv, Named::Chan(c), Some(v)) => Some(Deed::Recv(c, v)),
+        (OpKeyword::Lock, Named::Lock(l), None) => Some(Deed::Lock(l)),
+        (OpKeyword::Unlock, Named::Lock(l), None) => Some(Deed::Unlock(l)),
+        (OpKeyword::RLock, Named::Lock(l), None) if decls.is_rw(l) => Some(Deed::RLock(l)),
+        (OpKeyword::RUnlock, Named::Lock(l), None) if decls.is_rw(l) => Some(Deed::RUnlock(l)),
+        (OpKeyword::OnceDone, Named::Once(o), None) => Some(Deed::OnceDone(o)),
         _ => None,
     }
 }

@@ -1,6 +1,6 @@
 //! Lines that declare.
 ghost use Rattle.std.specs.Prelude.{◌≡◌, true, false, Some, Ok, IfOk, OnOk, OnErr, option_map};
-ghost use Rattle.race_records.specs.{Nouns.number_limit, Refusal.{Refuses, AllowsUnless}};
+ghost use Rattle.race_records.specs.{DeclKeywords.number_limit, Refusal.{Refuses, AllowsUnless}};
 ghost use Rattle.race_text.specs.Words.{parts_left};
 ghost use Rattle.race_text.specs.Fault as fault;
 ghost use Rattle.race_text.specs.Declaring as spec;
@@ -10,7 +10,7 @@ use crate::cut::cut_at;
 use crate::finder::word_cause;
 use crate::form::{Word, word_named};
 use crate::number::read_number;
-use race_records::{DeclFault, Decls, Noun, Object, as_text, object_by};
+use race_records::{DeclFault, DeclKeyword, Decls, Object, as_text, object_by};
 use std::alloc::Allocator;
 
 /// Adds the declaration that the line is, and answers true. Where the first word declares
@@ -34,7 +34,7 @@ pub fn read_declaration<A: Allocator + Copy>(
     match word_named(first) {
         None => Ok(false),
         Some(word) => match word {
-            Word::Declares(noun) => match declare(decls, noun, rest) {
+            Word::Declares(keyword) => match declare(decls, keyword, rest) {
                 Ok(()) => Ok(true),
                 Err(cause) => Err(cause),
             },
@@ -43,39 +43,39 @@ pub fn read_declaration<A: Allocator + Copy>(
     }
 }
 
-// Adds what the words behind the noun declare. All that a line can be refused for is looked at
+// Adds what the words behind the keyword declare. All that a line can be refused for is looked at
 // before, least cause first, so that nothing but memory is left to refuse it.
 fn declare<A: Allocator + Copy>(
     decls: &mut Decls<A>,
-    noun: Noun,
+    keyword: DeclKeyword,
     rest: Option<&[u8]>,
 ) -> Result<(), TextCause>
-    ensures refused { Refuses (spec.noun_cause decls.old.declarations noun (parts_left 32 rest.entry)) result }
+    ensures refused { Refuses (spec.decl_keyword_cause decls.old.declarations keyword (parts_left 32 rest.entry)) result }
     ensures allowed { AllowsUnless
-        (spec.noun_cause decls.old.declarations noun (parts_left 32 rest.entry)) result TextCause.OutOfMemory }
+        (spec.decl_keyword_cause decls.old.declarations keyword (parts_left 32 rest.entry)) result TextCause.OutOfMemory }
     ensures added { OnOk result (decls.new ≡ spec.with_declared decls.old
-        (fault.declared_as (Some (Word.Declares noun)) (parts_left 32 rest.entry))) }
+        (fault.declared_as (Some (Word.Declares keyword)) (parts_left 32 rest.entry))) }
     ensures err { OnErr result (decls.new ≡ decls.old) }
 {
-    if let Some(cause) = word_cause(decls, 0, Word::Declares(noun), rest) {
+    if let Some(cause) = word_cause(decls, 0, Word::Declares(keyword), rest) {
         return Err(cause);
     }
     let (name, behind) = cut_at(rest.unwrap(), b' ');
-    let object = object_read(noun, behind).unwrap();
+    let object = object_read(keyword, behind).unwrap();
     match decls.declare(as_text(name), object) {
         Ok(_) => Ok(()),
         Err(refused) => Err(cause_of(refused)),
     }
 }
 
-// The object of the noun, with the number that is left behind the name.
-fn object_read(noun: Noun, behind: Option<&[u8]>) -> Option<Object>
-    ensures { result ≡ spec.object_read noun (number_limit noun) (option_map (λ w. w.now) behind.entry) }
+// The object of the keyword, with the number that is left behind the name.
+fn object_read(keyword: DeclKeyword, behind: Option<&[u8]>) -> Option<Object>
+    ensures { result ≡ spec.object_read keyword (number_limit keyword) (option_map (λ w. w.now) behind.entry) }
 {
-    match (noun.number_limit(), behind) {
-        (None, None) => object_by(noun, None),
+    match (keyword.number_limit(), behind) {
+        (None, None) => object_by(keyword, None),
         (Some(limit), Some(word)) => match read_number(word, limit as u64) {
-            Some(number) => object_by(noun, Some(number as u32)),
+            Some(number) => object_by(keyword, Some(number as u32)),
             None => None,
         },
         _ => None,

@@ -1,16 +1,17 @@
-//! Lines that are events. Slices and parts go through memory at a call, so the path of the common
+//! Lines that are events. Slices and operands go through memory at a call, so the path of the common
 //! words is one function, and what a select or a fault says is read by others.
 ghost use Rattle.std.specs.{Prelude.{◌≡◌, ◌≤◌, [], ◌∷◌, length, take, true}, List.list_all, Option.option_map};
 ghost use Rattle.std.specs.Result.{result_ok};
-ghost use Rattle.race_records.specs.{Name.is_place_byte, Declarations.IsWellFormed, Parts.op_by};
-ghost use Rattle.race_text.specs.{Words.{parts_left, words_of}, Meaning.{named_in, part_in}};
+ghost use Rattle.race_records.specs.{Name.is_place_byte, Declarations.IsWellFormed, Operands.op_by};
+ghost use Rattle.race_text.specs.{Words.{parts_left, words_of}, Meaning.{named_in, operand_in}};
 ghost use Rattle.race_text.specs.Reading as spec;
 
 use crate::cut::cut_word;
 use crate::form::{Word, word_in};
-use crate::meaning::{is_wanted, part_in};
+use crate::meaning::{is_wanted, operand_in};
 use race_records::{
-    Decls, Kind, MAX_PLACE_LEN, Named, Op, Part, PartKind, Parts, Verb, op_by, part_kinds,
+    Decls, Kind, MAX_PLACE_LEN, Named, Op, OpKeyword, Operand, OperandKind, Operands, op_by,
+    operand_kinds,
 };
 use std::alloc::Allocator;
 
@@ -39,7 +40,7 @@ pub(crate) fn read_event<'a, A: Allocator>(decls: &Decls<A>, line: &'a [u8]) -> 
             None => None,
             Some(word) => match word {
                 Word::Declares(_) => None,
-                Word::Does(verb) => read_behind(decls, verb, rest),
+                Word::Does(keyword) => read_behind(decls, keyword, rest),
             },
         },
     }
@@ -48,32 +49,32 @@ pub(crate) fn read_event<'a, A: Allocator>(decls: &Decls<A>, line: &'a [u8]) -> 
 // The event of this word that the words behind it say.
 fn read_behind<'a, A: Allocator>(
     decls: &Decls<A>,
-    verb: Verb,
+    keyword: OpKeyword,
     rest: Option<&'a [u8]>,
 ) -> Option<Draft<'a>>
     requires { IsWellFormed decls.now }
-    ensures { option_map spec.drafted result ≡ spec.event_behind decls.now.declarations verb
+    ensures { option_map spec.drafted result ≡ spec.event_behind decls.now.declarations keyword
         (parts_left 32 rest.entry) }
 {
-    let (first, rest) = next_part(decls, PartKind::Object(Kind::Goroutine), rest)?;
+    let (first, rest) = next_operand(decls, OperandKind::Object(Kind::Goroutine), rest)?;
     let who = goroutine_of(first)?;
-    event_of(decls, verb, who, rest)
+    event_of(decls, keyword, who, rest)
 }
 
 // The event of this goroutine that the words behind its name say.
 #[inline(always)]
 fn event_of<'a, A: Allocator>(
     decls: &Decls<A>,
-    verb: Verb,
+    keyword: OpKeyword,
     who: u32,
     rest: Option<&'a [u8]>,
 ) -> Option<Draft<'a>>
     requires { IsWellFormed decls.now }
-    ensures { option_map spec.drafted result ≡ spec.event_of decls.now.declarations verb who
+    ensures { option_map spec.drafted result ≡ spec.event_of decls.now.declarations keyword who
         (parts_left 32 rest.entry) }
 {
-    let (op, rest) = next_op(decls, verb, part_kinds(verb), rest)?;
-    let (place, place2) = last_places(verb.has_two_places(), rest)?;
+    let (op, rest) = next_op(decls, keyword, operand_kinds(keyword), rest)?;
+    let (place, place2) = last_places(keyword.has_two_places(), rest)?;
     Some(Draft {
         who,
         op,
@@ -83,33 +84,35 @@ fn event_of<'a, A: Allocator>(
 }
 
 /// The number of a goroutine.
-pub fn goroutine_of(part: Part) -> Option<u32>
-    ensures { result ≡ spec.goroutine_of part }
+pub fn goroutine_of(operand: Operand) -> Option<u32>
+    ensures { result ≡ spec.goroutine_of operand }
 {
-    match part {
-        Part::Object(Named::Goroutine(number)) => Some(number),
+    match operand {
+        Operand::Object(Named::Goroutine(number)) => Some(number),
         _ => None,
     }
 }
 
-// The operation of the word whose parts are of these kinds, and what is left behind it. Most are on
-// an object, alone or with a value, and these are read with no list of their parts in memory.
+// The operation of the word whose operands are of these kinds, and what is left behind it. Most are on
+// an object, alone or with a value, and these are read with no list of their operands in memory.
 #[inline(always)]
 fn next_op<'a, A: Allocator>(
     decls: &Decls<A>,
-    verb: Verb,
-    kinds: &[PartKind],
+    keyword: OpKeyword,
+    kinds: &[OperandKind],
     rest: Option<&'a [u8]>,
 ) -> Option<(Op, Option<&'a [u8]>)>
     requires decls { IsWellFormed decls.now }
     requires few { length kinds.now ≤ 3 }
-    ensures { option_map spec.op_so_far result ≡ spec.op_in decls.now.declarations verb kinds.now
+    ensures { option_map spec.op_so_far result ≡ spec.op_in decls.now.declarations keyword kinds.now
         (parts_left 32 rest.entry) }
 {
     match kinds {
-        [PartKind::Object(kind), PartKind::Value] => op_with_value(decls, verb, *kind, rest),
-        [kind] => op_on_one(decls, verb, *kind, rest),
-        _ => other_op(decls, verb, kinds, rest),
+        [OperandKind::Object(kind), OperandKind::Value] => op_with_value(
+            decls, keyword, *kind, rest,
+        ),
+        [kind] => op_on_one(decls, keyword, *kind, rest),
+        _ => other_op(decls, keyword, kinds, rest),
     }
 }
 
@@ -117,97 +120,97 @@ fn next_op<'a, A: Allocator>(
 #[inline(always)]
 fn op_with_value<'a, A: Allocator>(
     decls: &Decls<A>,
-    verb: Verb,
+    keyword: OpKeyword,
     kind: Kind,
     rest: Option<&'a [u8]>,
 ) -> Option<(Op, Option<&'a [u8]>)>
     requires { IsWellFormed decls.now }
-    ensures { option_map spec.op_so_far result ≡ spec.op_in decls.now.declarations verb
-        (PartKind.Object kind ∷ PartKind.Value ∷ []) (parts_left 32 rest.entry) }
+    ensures { option_map spec.op_so_far result ≡ spec.op_in decls.now.declarations keyword
+        (OperandKind.Object kind ∷ OperandKind.Value ∷ []) (parts_left 32 rest.entry) }
 {
-    let (object, rest) = next_part(decls, PartKind::Object(kind), rest)?;
-    let (value, rest) = next_part(decls, PartKind::Value, rest)?;
-    op_before(verb, [object, value].as_slice(), rest)
+    let (object, rest) = next_operand(decls, OperandKind::Object(kind), rest)?;
+    let (value, rest) = next_operand(decls, OperandKind::Value, rest)?;
+    op_before(keyword, [object, value].as_slice(), rest)
 }
 
-// An operation that has one part.
+// An operation that has one operand.
 #[inline(always)]
 fn op_on_one<'a, A: Allocator>(
     decls: &Decls<A>,
-    verb: Verb,
-    kind: PartKind,
+    keyword: OpKeyword,
+    kind: OperandKind,
     rest: Option<&'a [u8]>,
 ) -> Option<(Op, Option<&'a [u8]>)>
     requires { IsWellFormed decls.now }
-    ensures { option_map spec.op_so_far result ≡ spec.op_in decls.now.declarations verb
+    ensures { option_map spec.op_so_far result ≡ spec.op_in decls.now.declarations keyword
         (kind ∷ []) (parts_left 32 rest.entry) }
 {
-    let (part, rest) = next_part(decls, kind, rest)?;
-    op_before(verb, [part].as_slice(), rest)
+    let (operand, rest) = next_operand(decls, kind, rest)?;
+    op_before(keyword, [operand].as_slice(), rest)
 }
 
 // Any operation.
 #[inline(never)]
 fn other_op<'a, A: Allocator>(
     decls: &Decls<A>,
-    verb: Verb,
-    kinds: &[PartKind],
+    keyword: OpKeyword,
+    kinds: &[OperandKind],
     rest: Option<&'a [u8]>,
 ) -> Option<(Op, Option<&'a [u8]>)>
     requires decls { IsWellFormed decls.now }
     requires few { length kinds.now ≤ 3 }
-    ensures { option_map spec.op_so_far result ≡ spec.op_in decls.now.declarations verb kinds.now
+    ensures { option_map spec.op_so_far result ≡ spec.op_in decls.now.declarations keyword kinds.now
         (parts_left 32 rest.entry) }
 {
-    let (parts, rest) = next_parts(decls, kinds, rest)?;
-    op_before(verb, parts.as_slice(), rest)
+    let (operands, rest) = next_operands(decls, kinds, rest)?;
+    op_before(keyword, operands.as_slice(), rest)
 }
 
-// The operation of the word with these parts, before what is left behind them.
+// The operation of the word with these operands, before what is left behind them.
 #[inline(always)]
 fn op_before<'a>(
-    verb: Verb,
-    parts: &[Part],
+    keyword: OpKeyword,
+    operands: &[Operand],
     rest: Option<&'a [u8]>,
 ) -> Option<(Op, Option<&'a [u8]>)>
     ensures { option_map spec.op_so_far result ≡ option_map
-        (spec.op_before (parts_left 32 rest.entry)) (op_by verb parts.now) }
+        (spec.op_before (parts_left 32 rest.entry)) (op_by keyword operands.now) }
 {
-    let op = op_by(verb, parts)?;
+    let op = op_by(keyword, operands)?;
     Some((op, rest))
 }
 
-/// A part for each of the kinds, and what is left behind them.
-pub fn next_parts<'a, A: Allocator>(
+/// An operand for each of the kinds, and what is left behind them.
+pub fn next_operands<'a, A: Allocator>(
     decls: &Decls<A>,
-    mut kinds: &[PartKind],
+    mut kinds: &[OperandKind],
     rest: Option<&'a [u8]>,
-) -> Option<(Parts, Option<&'a [u8]>)>
+) -> Option<(Operands, Option<&'a [u8]>)>
     requires decls { IsWellFormed decls.now }
     requires few { length kinds.now ≤ 3 }
-    ensures { option_map spec.parts_so_far result ≡ spec.parts_on decls.now.declarations []
+    ensures { option_map spec.operands_so_far result ≡ spec.operands_on decls.now.declarations []
         kinds.entry.now (parts_left 32 rest.entry) }
 {
-    let mut parts = Parts::new();
+    let mut operands = Operands::new();
     let mut left = rest;
     while let [kind, others @ ..] = kinds {
-        let (part, behind) = next_part(decls, *kind, left)?;
-        parts.push(part);
+        let (operand, behind) = next_operand(decls, *kind, left)?;
+        operands.push(operand);
         left = behind;
         kinds = others;
     }
-    Some((parts, left))
+    Some((operands, left))
 }
 
-/// The part of this kind that the next word says, and what is left behind it.
+/// The operand of this kind that the next word says, and what is left behind it.
 #[inline(always)]
-pub fn next_part<'a, A: Allocator>(
+pub fn next_operand<'a, A: Allocator>(
     decls: &Decls<A>,
-    kind: PartKind,
+    kind: OperandKind,
     rest: Option<&'a [u8]>,
-) -> Option<(Part, Option<&'a [u8]>)>
+) -> Option<(Operand, Option<&'a [u8]>)>
     requires { IsWellFormed decls.now }
-    ensures { option_map spec.part_so_far result ≡ spec.first_part decls.now.declarations kind
+    ensures { option_map spec.operand_so_far result ≡ spec.first_operand decls.now.declarations kind
         (parts_left 32 rest.entry) }
 {
     match rest {
@@ -216,31 +219,31 @@ pub fn next_part<'a, A: Allocator>(
             None => None,
             Some((end, others)) => match part_before(decls, kind, bytes, end) {
                 None => None,
-                Some(part) => Some((part, others)),
+                Some(operand) => Some((operand, others)),
             },
         },
     }
 }
 
-// The part of this kind that the first `len` bytes say. A name is looked up before its form is tested.
+// The operand of this kind that the first `len` bytes say. A name is looked up before its form is tested.
 #[inline(always)]
 fn part_before<A: Allocator>(
     decls: &Decls<A>,
-    kind: PartKind,
+    kind: OperandKind,
     bytes: &[u8],
     len: usize,
-) -> Option<Part>
+) -> Option<Operand>
     requires decls { IsWellFormed decls.now }
     requires len { len ≤ length bytes.now }
     requires seen { list_all is_place_byte (take len bytes.now) ≡ true }
-    ensures { result ≡ result_ok (part_in decls.now.declarations kind (take len bytes.now)) }
+    ensures { result ≡ result_ok (operand_in decls.now.declarations kind (take len bytes.now)) }
 {
     match kind {
-        PartKind::Object(_) | PartKind::RwMutex => match object_in(decls, kind, bytes, len) {
+        OperandKind::Object(_) | OperandKind::RwMutex => match object_in(decls, kind, bytes, len) {
             None => None,
-            Some(named) => Some(Part::Object(named)),
+            Some(named) => Some(Operand::Object(named)),
         },
-        _ => part_in(decls, kind, &bytes[..len]).ok(),
+        _ => operand_in(decls, kind, &bytes[..len]).ok(),
     }
 }
 
@@ -248,7 +251,7 @@ fn part_before<A: Allocator>(
 #[inline(always)]
 pub(crate) fn object_in<A: Allocator>(
     decls: &Decls<A>,
-    kind: PartKind,
+    kind: OperandKind,
     bytes: &[u8],
     len: usize,
 ) -> Option<Named>

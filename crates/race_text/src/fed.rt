@@ -148,8 +148,7 @@ impl<G: Grammar, A: Allocator + Copy> Lines<G, A> {
         ensures taken { MatchResult result
             (λ _. (k : G.Known) → spec.TakesBytes G.causes (G.stands_for k self.old.reader) bytes.now
             (G.stands_for k self.new.reader) self.new.part.items)
-            (λ told. (k : G.Known) → spec.TellsOfBytes G.causes (G.stands_for k self.old.reader) bytes.now told) }
-        ensures owed { IfErr result (λ told. (k : G.Known) → spec.HidesNoneOf G.causes (G.stands_for k self.old.reader) bytes.now told) }
+            (λ told. (k : G.Known) → spec.TellsOfWhole G.causes (G.stands_for k self.old.reader) bytes.now told) }
         ensures some { OnOk result ((k : G.Known) → StandsForSome (G.stands_for k self.old.reader) → StandsForSome (G.stands_for k self.new.reader)) }
         ensures unended { OnOk result (spec.IsUnended self.new.part.items) }
     {

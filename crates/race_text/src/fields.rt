@@ -7,7 +7,7 @@ ghost use Rattle.race_text.specs.Fault as spec;
 use crate::cause::TextCause;
 use crate::cut::cut_at;
 use crate::form::Field;
-use crate::meaning::{look_up, number_in, part_in, place_in};
+use crate::meaning::{look_up, number_in, operand_in, place_in};
 use race_records::{Decls, is_name};
 use std::alloc::Allocator;
 
@@ -31,7 +31,7 @@ fn field_cause<A: Allocator>(decls: &Decls<A>, field: Field, word: &[u8]) -> Opt
     match field {
         Field::NewName => new_name_cause(decls, word),
         Field::Number(limit) => number_in(word, limit as u64).err(),
-        Field::Part(kind) => part_in(decls, kind, word).err(),
+        Field::Operand(kind) => operand_in(decls, kind, word).err(),
         Field::Place => place_in(word).err(),
     }
 }

@@ -1,50 +1,50 @@
 //! The words that a line may begin with, which versions have them, and what each wants behind it.
 ghost use Rattle.std.specs.Prelude.{◌≡◌, ◌++◌, ◌∷◌, [], length, map, take, true, Some, IfSome};
-ghost use Rattle.race_records.specs.Parts.{since};
+ghost use Rattle.race_records.specs.Operands.{since};
 ghost use Rattle.race_text.specs.Form as spec;
 
 use arrayvec::ArrayVec;
-use race_records::{Kind, Noun, PartKind, Verb, Version, part_kinds};
+use race_records::{DeclKeyword, Kind, OpKeyword, OperandKind, Version, operand_kinds};
 
 /// What the first word of a line says that the line is.
 #[derive(Clone, Copy, PartialEq, Eq)]
 pub enum Word {
     /// An object is declared.
-    Declares(Noun),
+    Declares(DeclKeyword),
     /// An operation happened.
-    Does(Verb),
+    Does(OpKeyword),
 }
 
 /// The words that a line may begin with in any version, the common ones first: they are looked for
 /// in this order.
 pub const WORDS: [(&[u8], Word); 27] = [
-    (b"read", Word::Does(Verb::Read)),
-    (b"write", Word::Does(Verb::Write)),
-    (b"lock", Word::Does(Verb::Lock)),
-    (b"unlock", Word::Does(Verb::Unlock)),
-    (b"send", Word::Does(Verb::Send)),
-    (b"recv", Word::Does(Verb::Recv)),
-    (b"meet", Word::Does(Verb::Meet)),
-    (b"go", Word::Does(Verb::Go)),
-    (b"exit", Word::Does(Verb::Exit)),
-    (b"recvclosed", Word::Does(Verb::RecvClosed)),
-    (b"close", Word::Does(Verb::Close)),
-    (b"rlock", Word::Does(Verb::RLock)),
-    (b"runlock", Word::Does(Verb::RUnlock)),
-    (b"oncebegin", Word::Does(Verb::OnceBegin)),
-    (b"onceend", Word::Does(Verb::OnceEnd)),
-    (b"oncedone", Word::Does(Verb::OnceDone)),
-    (b"default", Word::Does(Verb::Default)),
-    (b"fault", Word::Does(Verb::Fault)),
-    (b"trylock", Word::Does(Verb::TryLock)),
-    (b"tryrlock", Word::Does(Verb::TryRLock)),
-    (b"tryfail", Word::Does(Verb::TryFail)),
-    (b"goroutine", Word::Declares(Noun::Goroutine)),
-    (b"var", Word::Declares(Noun::Var)),
-    (b"chan", Word::Declares(Noun::Chan)),
-    (b"mutex", Word::Declares(Noun::Mutex)),
-    (b"rwmutex", Word::Declares(Noun::RwMutex)),
-    (b"once", Word::Declares(Noun::Once)),
+    (b"read", Word::Does(OpKeyword::Read)),
+    (b"write", Word::Does(OpKeyword::Write)),
+    (b"lock", Word::Does(OpKeyword::Lock)),
+    (b"unlock", Word::Does(OpKeyword::Unlock)),
+    (b"send", Word::Does(OpKeyword::Send)),
+    (b"recv", Word::Does(OpKeyword::Recv)),
+    (b"meet", Word::Does(OpKeyword::Meet)),
+    (b"go", Word::Does(OpKeyword::Go)),
+    (b"exit", Word::Does(OpKeyword::Exit)),
+    (b"recvclosed", Word::Does(OpKeyword::RecvClosed)),
+    (b"close", Word::Does(OpKeyword::Close)),
+    (b"rlock", Word::Does(OpKeyword::RLock)),
+    (b"runlock", Word::Does(OpKeyword::RUnlock)),
+    (b"oncebegin", Word::Does(OpKeyword::OnceBegin)),
+    (b"onceend", Word::Does(OpKeyword::OnceEnd)),
+    (b"oncedone", Word::Does(OpKeyword::OnceDone)),
+    (b"default", Word::Does(OpKeyword::Default)),
+    (b"fault", Word::Does(OpKeyword::Fault)),
+    (b"trylock", Word::Does(OpKeyword::TryLock)),
+    (b"tryrlock", Word::Does(OpKeyword::TryRLock)),
+    (b"tryfail", Word::Does(OpKeyword::TryFail)),
+    (b"goroutine", Word::Declares(DeclKeyword::Goroutine)),
+    (b"var", Word::Declares(DeclKeyword::Var)),
+    (b"chan", Word::Declares(DeclKeyword::Chan)),
+    (b"mutex", Word::Declares(DeclKeyword::Mutex)),
+    (b"rwmutex", Word::Declares(DeclKeyword::RwMutex)),
+    (b"once", Word::Declares(DeclKeyword::Once)),
 ];
 
 /// What can stand behind the first word.
@@ -54,8 +54,8 @@ pub enum Field {
     NewName,
     /// A number of at most this limit.
     Number(u32),
-    /// A part of what an operation says.
-    Part(PartKind),
+    /// An operand of what an operation says.
+    Operand(OperandKind),
     /// A place in the source.
     Place,
 }
@@ -105,7 +105,7 @@ fn has_word(version: Version, word: Word) -> bool
 {
     match word {
         Word::Declares(_) => true,
-        Word::Does(verb) => version.has(verb),
+        Word::Does(op_keyword) => version.has(op_keyword),
     }
 }
 
@@ -117,25 +117,25 @@ pub(crate) fn common_word(word: &[u8]) -> Option<Word>
     ensures each { IfSome result (λ found. (version : Version) → spec.has_word version found ≡ true) }
 {
     match word {
-        [b'r', b'e', b'a', ..] => verb_spelled(word, b"read", Verb::Read),
-        [b'r', b'e', ..] => verb_spelled(word, b"recv", Verb::Recv),
-        [b'r', b'l', ..] => verb_spelled(word, b"rlock", Verb::RLock),
-        [b'r', b'u', ..] => verb_spelled(word, b"runlock", Verb::RUnlock),
-        [b'w', ..] => verb_spelled(word, b"write", Verb::Write),
-        [b'l', ..] => verb_spelled(word, b"lock", Verb::Lock),
-        [b'u', ..] => verb_spelled(word, b"unlock", Verb::Unlock),
-        [b's', ..] => verb_spelled(word, b"send", Verb::Send),
-        [b'm', ..] => verb_spelled(word, b"meet", Verb::Meet),
-        [b'o', ..] => verb_spelled(word, b"oncedone", Verb::OnceDone),
+        [b'r', b'e', b'a', ..] => op_keyword_spelled(word, b"read", OpKeyword::Read),
+        [b'r', b'e', ..] => op_keyword_spelled(word, b"recv", OpKeyword::Recv),
+        [b'r', b'l', ..] => op_keyword_spelled(word, b"rlock", OpKeyword::RLock),
+        [b'r', b'u', ..] => op_keyword_spelled(word, b"runlock", OpKeyword::RUnlock),
+        [b'w', ..] => op_keyword_spelled(word, b"write", OpKeyword::Write),
+        [b'l', ..] => op_keyword_spelled(word, b"lock", OpKeyword::Lock),
+        [b'u', ..] => op_keyword_spelled(word, b"unlock", OpKeyword::Unlock),
+        [b's', ..] => op_keyword_spelled(word, b"send", OpKeyword::Send),
+        [b'm', ..] => op_keyword_spelled(word, b"meet", OpKeyword::Meet),
+        [b'o', ..] => op_keyword_spelled(word, b"oncedone", OpKeyword::OnceDone),
         _ => None,
     }
 }
 
-// The verb of version 1, where the word is its spelling. A loop over bytes, as the spelling is constant and short.
+// The keyword of version 1, where the word is its spelling. A loop over bytes, as the spelling is constant and short.
 #[inline(always)]
-fn verb_spelled(word: &[u8], spelling: &[u8], verb: Verb) -> Option<Word>
-    requires named { spec.word_named spelling.now ≡ Some (Word.Does verb) }
-    requires early { since verb ≡ Version.One }
+fn op_keyword_spelled(word: &[u8], spelling: &[u8], op_keyword: OpKeyword) -> Option<Word>
+    requires named { spec.word_named spelling.now ≡ Some (Word.Does op_keyword) }
+    requires early { since op_keyword ≡ Version.One }
     ensures named { IfSome result (λ found. spec.word_named word.now ≡ Some found) }
     ensures each { IfSome result (λ found. (version : Version) → spec.has_word version found ≡ true) }
 {
@@ -147,7 +147,7 @@ fn verb_spelled(word: &[u8], spelling: &[u8], verb: Verb) -> Option<Word>
             return None;
         }
     }
-    Some(Word::Does(verb))
+    Some(Word::Does(op_keyword))
 }
 
 #[inline(never)]
@@ -169,20 +169,20 @@ pub(crate) fn fields_of(word: Word) -> ArrayVec<Field, 6>
 {
     let mut fields = ArrayVec::new();
     match word {
-        Word::Declares(noun) => {
+        Word::Declares(decl_keyword) => {
             fields.push(Field::NewName);
-            if let Some(limit) = noun.number_limit() {
+            if let Some(limit) = decl_keyword.number_limit() {
                 fields.push(Field::Number(limit));
             }
         }
-        Word::Does(verb) => {
-            fields.push(Field::Part(PartKind::Object(Kind::Goroutine)));
-            let kinds = part_kinds(verb);
+        Word::Does(op_keyword) => {
+            fields.push(Field::Operand(OperandKind::Object(Kind::Goroutine)));
+            let kinds = operand_kinds(op_keyword);
             for kind in kinds {
-                fields.push(Field::Part(*kind));
+                fields.push(Field::Operand(*kind));
             }
             fields.push(Field::Place);
-            if verb.has_two_places() {
+            if op_keyword.has_two_places() {
                 fields.push(Field::Place);
             }
         }
@@ -195,7 +195,7 @@ pub(crate) fn kind_declared(word: Word) -> Option<Kind>
     ensures { result ≡ spec.kind_declared word }
 {
     match word {
-        Word::Declares(noun) => Some(noun.kind()),
+        Word::Declares(decl_keyword) => Some(decl_keyword.kind()),
         Word::Does(_) => None,
     }
 }

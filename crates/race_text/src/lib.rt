@@ -29,14 +29,14 @@ mod writing;
 
 pub use cause::{TextCause, TextFault};
 #[doc(hidden)]
-pub use common::{Deed, Front, Said};
+pub use common::{Cursor, Deed, Said};
 #[doc(hidden)]
 pub use cut::{cut_at, has_bad_byte};
 #[doc(hidden)]
 pub use declaration::cause_of;
 pub use declaration::read_declaration;
 #[doc(hidden)]
-pub use event::{Draft, goroutine_of, last_place, next_part, next_parts};
+pub use event::{Draft, goroutine_of, last_place, next_operand, next_operands};
 pub use fed::Fed;
 #[doc(hidden)]
 pub use fed::Lines;
@@ -51,7 +51,7 @@ pub use grammar::Grammar;
 pub use guesses::{Guess, Guesses};
 pub use line_reader::LineReader;
 #[doc(hidden)]
-pub use meaning::{chan_in, number_in, part_in, place_in};
+pub use meaning::{chan_in, number_in, operand_in, place_in};
 pub use number::read_number;
 pub use parse::{parse_by, parse_trace};
 pub use race_records::{WriteFault, is_name, is_place};

@@ -10,7 +10,9 @@ use crate::cut::cut_at;
 use crate::fields::least;
 use crate::number::read_number;
 use crate::select::{case_spelled, cause_by, failure_spelled, kind_tried};
-use race_records::{Case, Cases, Cause, Decls, Kind, Named, Part, PartKind, is_name, is_place};
+use race_records::{
+    Case, Cases, Cause, Decls, Kind, Named, Operand, OperandKind, is_name, is_place,
+};
 use std::alloc::Allocator;
 
 /// A number of at most this limit.
@@ -33,19 +35,23 @@ pub(crate) fn look_up<A: Allocator>(decls: &Decls<A>, word: &[u8]) -> Option<Nam
 
 // Whether what is named is an object of the kind that is wanted.
 #[inline(always)]
-pub(crate) fn is_wanted<A: Allocator>(decls: &Decls<A>, kind: PartKind, named: Named) -> bool
+pub(crate) fn is_wanted<A: Allocator>(decls: &Decls<A>, kind: OperandKind, named: Named) -> bool
     requires { IsDeclared decls.now.declarations named }
     ensures { result ≡ is_wanted decls.now.declarations kind named }
 {
     match (kind, named) {
-        (PartKind::Object(kind), _) => named.is_of(kind),
-        (PartKind::RwMutex, Named::Lock(lock)) => decls.is_rw(lock),
+        (OperandKind::Object(kind), _) => named.is_of(kind),
+        (OperandKind::RwMutex, Named::Lock(lock)) => decls.is_rw(lock),
         _ => false,
     }
 }
 
 // What is declared by the name, where that is wanted.
-fn named_in<A: Allocator>(decls: &Decls<A>, kind: PartKind, word: &[u8]) -> Result<Named, TextCause>
+fn named_in<A: Allocator>(
+    decls: &Decls<A>,
+    kind: OperandKind,
+    word: &[u8],
+) -> Result<Named, TextCause>
     ensures { result ≡ spec.named_in decls.now.declarations kind word.now }
 {
     if !is_name(word) {
@@ -71,7 +77,7 @@ pub fn chan_in<A: Allocator>(decls: &Decls<A>, word: &[u8]) -> Result<Option<u32
     if word == b"nil".as_slice() {
         return Ok(None);
     }
-    match named_in(decls, PartKind::Object(Kind::Chan), word) {
+    match named_in(decls, OperandKind::Object(Kind::Chan), word) {
         Err(cause) => Err(cause),
         Ok(named) => {
             prove!(named.number() < decls.count(Kind::Chan));
@@ -165,30 +171,30 @@ pub fn place_in(word: &[u8]) -> Result<&[u8], TextCause>
     }
 }
 
-/// A part of this kind.
-pub fn part_in<A: Allocator>(
+/// An operand of this kind.
+pub fn operand_in<A: Allocator>(
     decls: &Decls<A>,
-    kind: PartKind,
+    kind: OperandKind,
     word: &[u8],
-) -> Result<Part, TextCause>
-    ensures { result ≡ spec.part_in decls.now.declarations kind word.now }
+) -> Result<Operand, TextCause>
+    ensures { result ≡ spec.operand_in decls.now.declarations kind word.now }
 {
     match kind {
-        PartKind::Object(_) | PartKind::RwMutex => match named_in(decls, kind, word) {
+        OperandKind::Object(_) | OperandKind::RwMutex => match named_in(decls, kind, word) {
             Err(cause) => Err(cause),
-            Ok(named) => Ok(Part::Object(named)),
+            Ok(named) => Ok(Operand::Object(named)),
         },
-        PartKind::Value => match number_in(word, u64::MAX) {
+        OperandKind::Value => match number_in(word, u64::MAX) {
             Err(cause) => Err(cause),
-            Ok(value) => Ok(Part::Value(value)),
+            Ok(value) => Ok(Operand::Value(value)),
         },
-        PartKind::Cases => match cases_in(decls, word) {
+        OperandKind::Cases => match cases_in(decls, word) {
             Err(cause) => Err(cause),
-            Ok(cases) => Ok(Part::Cases(cases)),
+            Ok(cases) => Ok(Operand::Cases(cases)),
         },
-        PartKind::Cause => match failure_in(decls, word) {
+        OperandKind::Cause => match failure_in(decls, word) {
             Err(cause) => Err(cause),
-            Ok(cause) => Ok(Part::Cause(cause)),
+            Ok(cause) => Ok(Operand::Cause(cause)),
         },
     }
 }

@@ -20,6 +20,8 @@ use std::mem;
 pub struct Reader<A: Allocator> {
     /// The memory for what is read.
     pub alloc: A,
+    /// The key for the hashes of names and places.
+    pub key: u64,
     /// Whether the header was read.
     pub has_header: bool,
     /// The declarations, until the first event. They are of the version that the header says.
@@ -34,6 +36,7 @@ impl<A: Allocator> Drop for Reader<A> {
     fn drop(self) {
         let Reader {
             alloc: _,
+            key: _,
             has_header: _,
             decls: _,
             trace: _,
@@ -79,15 +82,24 @@ impl<A: Allocator + Copy> Grammar for Reader<A> {
 }
 
 impl<A: Allocator + Copy> Reader<A> {
-    /// Nothing is read yet. Takes no memory.
+    /// Nothing is read yet, and the key is 0. Takes no memory.
     pub fn new(alloc: A) -> Reader<A>
+        ensures stands { spec.StandsFor result [] }
+        ensures none { result.trace ≡ None }
+    {
+        Reader::keyed(alloc, 0)
+    }
+
+    /// Nothing is read yet. Names and places are hashed by the key. Takes no memory.
+    pub fn keyed(alloc: A, key: u64) -> Reader<A>
         ensures stands { spec.StandsFor result [] }
         ensures none { result.trace ≡ None }
     {
         Reader {
             alloc,
+            key,
             has_header: false,
-            decls: Decls::new(alloc),
+            decls: Decls::keyed(alloc, Version::One, key),
             trace: None,
             guesses: Guesses::new(alloc),
         }
@@ -174,6 +186,7 @@ impl<A: Allocator + Copy> Reader<A> {
     {
         let Reader {
             alloc: _,
+            key: _,
             has_header: _,
             decls,
             trace,
@@ -204,7 +217,7 @@ impl<A: Allocator + Copy> Reader<A> {
                 Ok(())
             }
             Some(Version::Two) => {
-                self.decls = Decls::new_version2(self.alloc);
+                self.decls = Decls::keyed(self.alloc, Version::Two, self.key);
                 self.has_header = true;
                 Ok(())
             }

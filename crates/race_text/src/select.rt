@@ -2,7 +2,7 @@
 ghost use Rattle.std.specs.Prelude.{◌≡◌, map, option_map};
 ghost use Rattle.race_text.specs.Select as spec;
 
-use race_records::{Cause, Dir, Kind, Named, PartKind};
+use race_records::{Cause, Dir, Kind, Named, OperandKind};
 
 /// What a run failed at.
 #[derive(Clone, Copy, PartialEq, Eq)]
@@ -66,14 +66,14 @@ fn failure_among<'a>(mut table: &[(&[u8], Attempt)], word: &'a [u8]) -> Option<(
 }
 
 // What this can fail at.
-pub(crate) fn kind_tried(attempt: Attempt) -> PartKind
+pub(crate) fn kind_tried(attempt: Attempt) -> OperandKind
     ensures { result ≡ spec.kind_tried attempt }
 {
     match attempt {
-        Attempt::Send => PartKind::Object(Kind::Chan),
-        Attempt::Close => PartKind::Object(Kind::Chan),
-        Attempt::Unlock => PartKind::Object(Kind::Lock),
-        Attempt::RUnlock => PartKind::RwMutex,
+        Attempt::Send => OperandKind::Object(Kind::Chan),
+        Attempt::Close => OperandKind::Object(Kind::Chan),
+        Attempt::Unlock => OperandKind::Object(Kind::Lock),
+        Attempt::RUnlock => OperandKind::RwMutex,
     }
 }
 

@@ -65,13 +65,13 @@ impl<A: Allocator + Copy> Grammar for EventStream<A> {
 }
 
 impl<A: Allocator + Copy> EventStream<A> {
-    /// Nothing is read yet. Takes no memory.
-    pub fn new(alloc: A) -> EventStream<A>
+    /// Nothing is read yet. Names and places are hashed by the key. Takes no memory.
+    pub fn keyed(alloc: A, key: u64) -> EventStream<A>
         ensures stands { spec.StandsWith result [] [] }
         ensures none { spec.events_of result ≡ [] }
     {
         EventStream {
-            reader: Reader::new(alloc),
+            reader: Reader::keyed(alloc, key),
             before: 0,
         }
     }

@@ -1,7 +1,7 @@
 //! A trace's text, written.
 ghost use Rattle.std.specs.Prelude.{◌≡◌, ◌<◌, [], ◌∷◌, ◌++◌, true, length, take, All, IsTrue, IfSome, IfErr};
 ghost use Rattle.std.specs.{Io.KnownBytes.Appends, List.list_all, Option.option_map};
-ghost use Rattle.race_records.specs.{Devices.written, Events.fits, Page.Printing, Parts.{part_fits, chan_is_in_range}};
+ghost use Rattle.race_records.specs.{Devices.written, Events.fits, Page.Printing, Operands.{operand_fits, chan_is_in_range}};
 ghost use Rattle.race_records.specs.Declarations.{count_of};
 ghost use Rattle.race_text.specs.{Output.Writes, Writing.{body, declarations_text, declaration_text, events_text}};
 ghost use Rattle.race_text.specs.Text as text;
@@ -10,8 +10,8 @@ ghost use Rattle.race_text.specs.Writing as spec;
 use crate::header::header_line;
 use itoa::Buffer;
 use race_records::{
-    Case, Cases, Cause, Decls, Dir, Event, Kind, Named, Noun, Page, Part, Sink, Trace, Verb,
-    WriteFault, failed_at, object_says, says,
+    Case, Cases, Cause, DeclKeyword, Decls, Dir, Event, Kind, Named, OpKeyword, Operand, Page,
+    Sink, Trace, WriteFault, failed_at, object_says, says,
 };
 use std::alloc::Allocator;
 use std::io::Write;
@@ -116,24 +116,24 @@ pub(crate) fn print_declaration<W: Write, A: Allocator>(
         (declaration_text decls.now.declarations index) }
 {
     let (object, name) = decls.declaration(index);
-    let (noun, number) = object_says(object);
-    match print_first(page, sink, noun_text(noun), name) {
+    let (decl_keyword, number) = object_says(object);
+    match print_first(page, sink, decl_keyword_text(decl_keyword), name) {
         Ok(()) => print_number(page, sink, number),
         Err(fault) => Err(fault),
     }
 }
 
 // The word of a declaration.
-fn noun_text(noun: Noun) -> &'static str
-    ensures { result.now ≡ spec.noun_text noun }
+fn decl_keyword_text(decl_keyword: DeclKeyword) -> &'static str
+    ensures { result.now ≡ spec.decl_keyword_text decl_keyword }
 {
-    match noun {
-        Noun::Goroutine => "goroutine",
-        Noun::Var => "var",
-        Noun::Chan => "chan",
-        Noun::Mutex => "mutex",
-        Noun::RwMutex => "rwmutex",
-        Noun::Once => "once",
+    match decl_keyword {
+        DeclKeyword::Goroutine => "goroutine",
+        DeclKeyword::Var => "var",
+        DeclKeyword::Chan => "chan",
+        DeclKeyword::Mutex => "mutex",
+        DeclKeyword::RwMutex => "rwmutex",
+        DeclKeyword::Once => "once",
     }
 }
 
@@ -150,12 +150,12 @@ fn print_number<W: Write>(
         None => page.put(sink, b"\n"),
         Some(number) => {
             let mut digits = Buffer::new();
-            let parts = [
+            let operands = [
                 b" ".as_slice(),
                 digits.format(number).as_bytes(),
                 b"\n".as_slice(),
             ];
-            page.put_all(sink, &parts)
+            page.put_all(sink, &operands)
         }
     }
 }
@@ -175,9 +175,9 @@ pub fn print_event<W: Write, A: Allocator>(
     let who = decls.name(Named::Goroutine(event.who));
     let place = decls.place_text(event.place);
     let place2 = second_text(decls, event.place2);
-    let (verb, parts) = says(&event.op);
-    match print_first(page, sink, verb_text(verb), who) {
-        Ok(()) => print_behind(page, sink, decls, parts.as_slice(), place, place2),
+    let (op_keyword, operands) = says(&event.op);
+    match print_first(page, sink, op_keyword_text(op_keyword), who) {
+        Ok(()) => print_behind(page, sink, decls, operands.as_slice(), place, place2),
         Err(fault) => Err(fault),
     }
 }
@@ -194,31 +194,31 @@ fn second_text<A: Allocator>(decls: &Decls<A>, place2: Option<u32>) -> Option<&s
 }
 
 // The word of an operation.
-fn verb_text(verb: Verb) -> &'static str
-    ensures { result.now ≡ spec.verb_text verb }
+fn op_keyword_text(op_keyword: OpKeyword) -> &'static str
+    ensures { result.now ≡ spec.op_keyword_text op_keyword }
 {
-    match verb {
-        Verb::Go => "go",
-        Verb::Exit => "exit",
-        Verb::Read => "read",
-        Verb::Write => "write",
-        Verb::Send => "send",
-        Verb::Recv => "recv",
-        Verb::Meet => "meet",
-        Verb::RecvClosed => "recvclosed",
-        Verb::Close => "close",
-        Verb::Default => "default",
-        Verb::Lock => "lock",
-        Verb::Unlock => "unlock",
-        Verb::RLock => "rlock",
-        Verb::RUnlock => "runlock",
-        Verb::TryLock => "trylock",
-        Verb::TryRLock => "tryrlock",
-        Verb::TryFail => "tryfail",
-        Verb::OnceBegin => "oncebegin",
-        Verb::OnceEnd => "onceend",
-        Verb::OnceDone => "oncedone",
-        Verb::Fault => "fault",
+    match op_keyword {
+        OpKeyword::Go => "go",
+        OpKeyword::Exit => "exit",
+        OpKeyword::Read => "read",
+        OpKeyword::Write => "write",
+        OpKeyword::Send => "send",
+        OpKeyword::Recv => "recv",
+        OpKeyword::Meet => "meet",
+        OpKeyword::RecvClosed => "recvclosed",
+        OpKeyword::Close => "close",
+        OpKeyword::Default => "default",
+        OpKeyword::Lock => "lock",
+        OpKeyword::Unlock => "unlock",
+        OpKeyword::RLock => "rlock",
+        OpKeyword::RUnlock => "runlock",
+        OpKeyword::TryLock => "trylock",
+        OpKeyword::TryRLock => "tryrlock",
+        OpKeyword::TryFail => "tryfail",
+        OpKeyword::OnceBegin => "oncebegin",
+        OpKeyword::OnceEnd => "onceend",
+        OpKeyword::OnceDone => "oncedone",
+        OpKeyword::Fault => "fault",
     }
 }
 
@@ -232,71 +232,71 @@ fn print_first<W: Write>(
     ensures { Printing W.contents result sink.old sink.new page.old page.new
         (word.now ++ 32 ∷ who.now) }
 {
-    let parts = [word.as_bytes(), b" ".as_slice(), who.as_bytes()];
-    page.put_all(sink, &parts)
+    let operands = [word.as_bytes(), b" ".as_slice(), who.as_bytes()];
+    page.put_all(sink, &operands)
 }
 
-// Prints the parts of an operation and the places.
+// Prints the operands of an operation and the places.
 fn print_behind<W: Write, A: Allocator>(
     page: &mut Page,
     sink: &mut Sink<W>,
     decls: &Decls<A>,
-    parts: &[Part],
+    operands: &[Operand],
     place: &str,
     place2: Option<&str>,
 ) -> Result<(), WriteFault>
-    requires { list_all (part_fits decls.now.declarations) parts.now ≡ true }
+    requires { list_all (operand_fits decls.now.declarations) operands.now ≡ true }
     ensures { Printing W.contents result sink.old sink.new page.old page.new
-        (spec.parts_text decls.now.declarations parts.now
+        (spec.operands_text decls.now.declarations operands.now
         ++ spec.place_end place.now (option_map (λ place. place.now) place2.entry)) }
 {
-    match print_parts(page, sink, decls, parts) {
+    match print_operands(page, sink, decls, operands) {
         Ok(()) => print_places(page, sink, place, place2),
         Err(fault) => Err(fault),
     }
 }
 
-// Prints each part behind a space.
-fn print_parts<W: Write, A: Allocator>(
+// Prints each operand behind a space.
+fn print_operands<W: Write, A: Allocator>(
     page: &mut Page,
     sink: &mut Sink<W>,
     decls: &Decls<A>,
-    parts: &[Part],
+    operands: &[Operand],
 ) -> Result<(), WriteFault>
-    requires { list_all (part_fits decls.now.declarations) parts.now ≡ true }
+    requires { list_all (operand_fits decls.now.declarations) operands.now ≡ true }
     ensures { Printing W.contents result sink.old sink.new page.old page.new
-        (spec.parts_text decls.now.declarations parts.now) }
+        (spec.operands_text decls.now.declarations operands.now) }
 {
-    for part in parts {
-        if let Err(fault) = print_part(page, sink, decls, part) {
+    for operand in operands {
+        if let Err(fault) = print_operand(page, sink, decls, operand) {
             return Err(fault);
         }
     }
     Ok(())
 }
 
-fn print_part<W: Write, A: Allocator>(
+fn print_operand<W: Write, A: Allocator>(
     page: &mut Page,
     sink: &mut Sink<W>,
     decls: &Decls<A>,
-    part: &Part,
+    operand: &Operand,
 ) -> Result<(), WriteFault>
-    requires { part_fits decls.now.declarations part.now ≡ true }
+    requires { operand_fits decls.now.declarations operand.now ≡ true }
     ensures { Printing W.contents result sink.old sink.new page.old page.new
-        (spec.behind_space decls.now.declarations part.now) }
+        (spec.behind_space decls.now.declarations operand.now) }
 {
-    match part {
-        Part::Object(named) => {
-            let parts = [b" ".as_slice(), decls.name(*named).as_bytes()];
-            page.put_all(sink, &parts)
+    match operand {
+        Operand::Object(named) => {
+            let operands = [b" ".as_slice(), decls.name(*named).as_bytes()];
+            page.put_all(sink, &operands)
         }
-        Part::Value(value) => {
+        Operand::Value(value) => {
             let mut digits = Buffer::new();
-            let parts = [b" ".as_slice(), digits.format(*value).as_bytes()];
-            page.put_all(sink, &parts)
+            let operands = [b" ".as_slice(), digits.format(*value).as_bytes()];
+            page.put_all(sink, &operands)
         }
-        Part::Cases(cases) => print_cases(page, sink, decls, cases),
-        Part::Cause(cause) => print_failure(page, sink, decls, *cause),
+        Operand::Cases(cases) => print_cases(page, sink, decls, cases),
+        Operand::Cause(cause) => print_failure(page, sink, decls, *cause),
     }
 }
 
@@ -307,9 +307,9 @@ fn print_cases<W: Write, A: Allocator>(
     decls: &Decls<A>,
     cases: &Cases,
 ) -> Result<(), WriteFault>
-    requires { part_fits decls.now.declarations (Part.Cases cases.now) ≡ true }
+    requires { operand_fits decls.now.declarations (Operand.Cases cases.now) ≡ true }
     ensures { Printing W.contents result sink.old sink.new page.old page.new
-        (spec.behind_space decls.now.declarations (Part.Cases cases.now)) }
+        (spec.behind_space decls.now.declarations (Operand.Cases cases.now)) }
 {
     if cases.is_empty() {
         return page.put(sink, b" -");
@@ -339,12 +339,12 @@ fn print_case<W: Write, A: Allocator>(
         Dir::Send => "send:",
         Dir::Recv => "recv:",
     };
-    let parts = [
+    let operands = [
         before.as_slice(),
         dir.as_bytes(),
         chan_text(decls, case.chan).as_bytes(),
     ];
-    page.put_all(sink, &parts)
+    page.put_all(sink, &operands)
 }
 
 // The name of a channel, or nil.
@@ -365,9 +365,9 @@ fn print_failure<W: Write, A: Allocator>(
     decls: &Decls<A>,
     cause: Cause,
 ) -> Result<(), WriteFault>
-    requires { part_fits decls.now.declarations (Part.Cause cause) ≡ true }
+    requires { operand_fits decls.now.declarations (Operand.Cause cause) ≡ true }
     ensures { Printing W.contents result sink.old sink.new page.old page.new
-        (spec.behind_space decls.now.declarations (Part.Cause cause)) }
+        (spec.behind_space decls.now.declarations (Operand.Cause cause)) }
 {
     let tried = match cause {
         Cause::SendClosed(_) => "send:",
@@ -380,8 +380,8 @@ fn print_failure<W: Write, A: Allocator>(
         None => "nil",
         Some(named) => decls.name(named),
     };
-    let parts = [b" ".as_slice(), tried.as_bytes(), name.as_bytes()];
-    page.put_all(sink, &parts)
+    let operands = [b" ".as_slice(), tried.as_bytes(), name.as_bytes()];
+    page.put_all(sink, &operands)
 }
 
 // Prints the place, and the second one where there is one, and ends the line.
@@ -396,18 +396,18 @@ fn print_places<W: Write>(
 {
     match place2 {
         None => {
-            let parts = [b" ".as_slice(), place.as_bytes(), b"\n".as_slice()];
-            page.put_all(sink, &parts)
+            let operands = [b" ".as_slice(), place.as_bytes(), b"\n".as_slice()];
+            page.put_all(sink, &operands)
         }
         Some(second) => {
-            let parts = [
+            let operands = [
                 b" ".as_slice(),
                 place.as_bytes(),
                 b" ".as_slice(),
                 second.as_bytes(),
                 b"\n".as_slice(),
             ];
-            page.put_all(sink, &parts)
+            page.put_all(sink, &operands)
         }
     }
 }

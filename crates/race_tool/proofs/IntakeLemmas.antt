@@ -1,11 +1,11 @@
 -- How a trace is read on that is judged meanwhile.
-use Rattle.std.proofs.Common.{◌≡◌, ◌≢◌, ℕ, ◌+◌, Bool, true, false, IsTrue, ◌≤◌, ◌<◌, List, [], length, Option, None, Result}
+use Rattle.std.proofs.Common.{◌≡◌, ◌≢◌, ℕ, ◌+◌, Bool, true, false, IsTrue, ◌≤◌, ◌<◌, List, [], length, vec_len, Option, None, Result}
 use Rattle.std.{proofs.Common.{Ok, Err, IfOk, IfErr, OnOk, OnErr, refl, sym, ap, ◌∙◌, subst, arith}, specs.Io.KnownBytes.Keeps}
 use Rattle.race_records.specs.declared.source.Source.{Source}
 use Rattle.race_records.specs.Devices.{unread, source_reads, source_failures, more_by, one_more}
 use Rattle.race_text.specs.declared.{cause.TextFault.TextFault, fed.Fed.Fed, stream.EventStream.EventStream}
 use Rattle.race_text.specs.{Fault.trace_causes, Fed.{IsFed, IsReady}, Stream.has_events}
-use Rattle.race_tool.specs.declared.input.{ReadFault.ReadFault, TheConstants.MAX_TURNS}
+use Rattle.race_tool.specs.declared.input.{ReadFault.ReadFault, TheConstants.{BLOCK, MAX_TURNS}}
 use Rattle.race_tool.specs.declared.intake.{Intake.Intake, JudgedStream.JudgedStream}
 use Rattle.race_tool.specs.Input.{HasReadAll, FeedsMore, IsBetweenFine, ReadsBy}
 use Rattle.race_tool.specs.{Intake.{HasTaken, GoesOnTo, IsReadable, IsReadOn, ReadsOn, ReadsOnAll}, Streams.IsReadText}
@@ -153,11 +153,22 @@ told_all all (Ok (Err fault)) = tt
 told_all all (Err fault) = tt
 
 -- a reader that told no fault is ready for the next block
-pub fine_now : {A : Type 0} (Stands : EventStream A → List (List ℕ) → Type 0) (old new : Fed (EventStream A) A) (answer : Result Bool TextFault) (more : Bool)
+fine_now : {A : Type 0} (Stands : EventStream A → List (List ℕ) → Type 0) (old new : Fed (EventStream A) A) (answer : Result Bool TextFault) (more : Bool)
     → answer ≡ Ok more → OnOk answer (new.fault ≡ None) → (IsReady Stands old → IsReady Stands new) → IsBetweenFine Stands old → IsBetweenFine Stands new
 fine_now Stands old new answer more is fine on was =
     let none = subst (λ (a : Result Bool TextFault). OnOk a (new.fault ≡ None)) is fine in
     record { fine = none; between = on (λ _. was.between) none }
+
+-- so the next block can be read
+pub readable_now : {A : Type 0} (Stands : EventStream A → List (List ℕ) → Type 0) (old new : Intake A) (answer : Result Bool TextFault) (more : Bool) → answer ≡ Ok more
+    → OnOk answer (new.reader.fault ≡ None) → (IsReady Stands old.reader → IsReady Stands new.reader) → IsReadable Stands old
+    → vec_len new.block ≡ BLOCK → new.wanted ≡ old.wanted → new.turns ≤ MAX_TURNS → IsReadable Stands new
+readable_now Stands old new answer more is fine on was room wanted limit = record {
+  room = room;
+  some = subst (λ n. 0 < n) (sym wanted) was.some;
+  ready = fine_now Stands old.reader new.reader answer more is fine on was.ready;
+  limit = limit;
+}
 
 -- where the judge is refused before more is read
 pub refused_before : {R A : Type 0} (remaining : R → Option (List ℕ)) (source : Source R) (i : Intake A)

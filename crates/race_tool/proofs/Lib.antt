@@ -1,11 +1,9 @@
 pub mod InputLemmas
 pub mod InputEnds
 pub mod EngineLemmas
-pub mod PrintableLemmas
 pub mod StatusLemmas
 pub mod OneReport
 pub mod EachIsJudged
-pub mod ListingLemmas
 pub mod OptionLemmas
 pub mod RunLemmas
 pub mod RaceLemmas

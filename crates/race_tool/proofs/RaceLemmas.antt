@@ -6,14 +6,13 @@ use Rattle.race_records.specs.{Events.TraceState, TraceEquality.{placed, recorde
 use Rattle.race_model.specs.{Legal.IsLegal, Verdict.{Verdict, IsVerdict, Illegal, Clean, Races}}
 use Rattle.race_model.proofs.Uniqueness.{illegal_not_legal}
 use Rattle.race_edges.specs.declared.fault.TheConstants.{MAX_PLAIN_EVENTS}
-use Rattle.race_verdict.specs.{Traces.{capacities, IsClean, IsRacy}, Verdicts.verdict_of}
+use Rattle.race_verdict.specs.{Traces.{capacities, HasVerdict, IsClean, IsRacy}, Verdicts.verdict_of}
 use Rattle.race_hub.specs.{declared.ending.End.End, Recording.RecordingState}
 use Rattle.race_script.{specs.{Fault.text_fault, Program.ProgramState}, proofs.TextFine.text_has_no_fault}
 use Rattle.race_report.{specs.Report.report, proofs.PrintableLemmas.races_are_of}
-use Rattle.race_tool.specs.{declared.{race_found.{JudgedRun.{JudgedRun as Found}}}, Finding.IsVerdictOn}
-use Rattle.race_tool.specs.{Outcome.IsOfAFinding, Race.{JudgedRun, NoProgram, Ran, HasRunWhere, IsJudgedRun}}
-use Rattle.race_tool.specs.{Race.{verdict_text, judged_status}, Recorded.{trace_of, judged_run_of, CanBePrinted}}
-use Rattle.race_tool.specs.{Report.end_line, Run.{status_of_end, IsProgramWhere, IsRunOf, IsTraceOf}}
+use Rattle.race_tool.specs.{declared.{race.JudgedRun.JudgedRun, reply.Reply.Reply}, Finding.IsVerdictOn, Reply.reply_status}
+use Rattle.race_tool.specs.{Outcome.IsOfAFinding, Race.{HasRunWhere, IsJudged, IsJudgedRun, RacesAreOfRun, judged_status}}
+use Rattle.race_tool.specs.{Race.status_of_verdict, Report.end_line, Run.{trace_of, HasRun, IsProgramWhere, status_of_end}}
 use Rattle.race_tool.proofs.{OneReport.report_same, RunLemmas.{trace_stays, end_own}, StatusLemmas.{is_clean, is_racy}}
 use Rattle.race_tool.proofs.StatusLemmas.{small, large}
 use Rattle.race_tool.specs.declared.status.TheConstants as status
@@ -35,7 +34,7 @@ module _ (r : RecordingState) (trace : TraceState) (decls_are : trace.decls ≡ 
   same_record = (λ i. record { declared = declared (decls_are i); events = map (placed (decls_are i).places) (events_are i) })
 
   pub same_report : (verdict : Verdict) (end : End) → end ≡ r.end
-      → report trace verdict ++ end_line trace.decls.declarations end ≡ verdict_text r (trace_of r) (Some verdict)
+      → report trace verdict ++ end_line trace.decls.declarations end ≡ report (trace_of r) verdict ++ end_line r.decls.declarations r.end
   same_report verdict end is =
       λ i. report_same trace (trace_of r) same_record verdict i ++ end_line (decls_are i).declarations (is i)
 
@@ -54,64 +53,80 @@ no_end_is_illegal End.Deadlock is = absurd (omega (arith, is))
 no_end_is_illegal End.Limit is = absurd (omega (arith, is))
 no_end_is_illegal (End.Bad g) is = absurd (omega (arith, is))
 
--- the trace of a run is legal
-legal_run : {limit : ℕ} {picks : Option (List ℕ)} {program : ProgramState} (r : RecordingState) (trace : TraceState) → IsTraceOf r trace
-    → IsRunOf limit picks program r → IsLegal (capacities trace) trace.events
-legal_run r trace is_of run = subst (λ (d : DeclsState). IsLegal (capacity_of d.declarations) trace.events) (sym is_of.decls)
-    (subst (λ (es : List Event). IsLegal (capacity_of r.decls.declarations) es) (sym is_of.events) run.recording.legal)
+-- what a status says of a verdict on a legal trace
+module _ (trace : TraceState) (end : End) where
+  never_illegal_on : (v : Verdict) → HasVerdict trace v → IsLegal (capacities trace) trace.events → status_of_verdict end v ≢ status.ILLEGAL
+  never_illegal_on (Illegal index rule) right legal is = illegal_not_legal (capacities trace) trace.events index rule right legal
+  never_illegal_on Clean right legal is = no_end_is_illegal end is
+  never_illegal_on (Races races) right legal is = absurd (omega (arith, is))
+
+  clean_on : (v : Verdict) → HasVerdict trace v → status_of_verdict end v ≡ status.CLEAN → IsClean trace
+  clean_on (Illegal index rule) right is = absurd (omega (arith, is))
+  clean_on Clean right is = is_clean trace right
+  clean_on (Races races) right is = absurd (omega (arith, is))
+
+  racy_on : (v : Verdict) → HasVerdict trace v → status_of_verdict end v ≡ status.RACES → IsRacy trace
+  racy_on (Illegal index rule) right is = absurd (omega (arith, is))
+  racy_on Clean right is = absurd (no_end_races end is)
+  racy_on (Races races) right is = is_racy trace races right
 
 -- no event of a run breaks a rule
-module _ (limit : ℕ) (picks : Option (List ℕ)) (plain : Bool) (bytes : List ℕ) where
-  pub never_illegal : (judged : JudgedRun) → IsJudgedRun limit picks plain bytes judged → judged_status judged ≢ status.ILLEGAL
-  never_illegal (NoProgram fault) right is = absurd (omega (arith, is))
-  never_illegal (Ran program r trace None) right is = absurd (omega (arith, is))
-  never_illegal (Ran program r trace (Some (Illegal index rule))) right is =
-      illegal_not_legal (capacities trace) trace.events index rule right.3.1 (legal_run r trace right.2 right.1)
-  never_illegal (Ran program r trace (Some Clean)) right is = no_end_is_illegal r.end is
-  never_illegal (Ran program r trace (Some (Races races))) right is = absurd (omega (arith, is))
+module _ {A : Type 0} (limit : ℕ) (picks : Option (List ℕ)) (plain : Bool) (bytes : List ℕ) where
+  pub never_illegal : (reply : Reply (JudgedRun A)) → IsJudgedRun limit picks plain bytes reply → reply_status judged_status reply ≢ status.ILLEGAL
+  never_illegal (Reply.Faulty fault) right is = absurd (omega (arith, is))
+  never_illegal (Reply.TooLong events) right is = absurd (omega (arith, is))
+  never_illegal (Reply.Broken illegal) right is = right
+  never_illegal Reply.NoRace right is = right
+  never_illegal (Reply.Found j) right is =
+      never_illegal_on (trace_of j.recording) j.recording.end (verdict_of j.verdict) right.1.right right.0.holds.run.recording.legal is
 
   -- with CLEAN its trace has no race
-  pub clean_run : (judged : JudgedRun) → IsJudgedRun limit picks plain bytes judged → judged_status judged ≡ status.CLEAN
+  pub clean_run : (reply : Reply (JudgedRun A)) → IsJudgedRun limit picks plain bytes reply → reply_status judged_status reply ≡ status.CLEAN
       → IsProgramWhere (HasRunWhere limit picks IsClean) bytes
-  clean_run (NoProgram fault) right is = absurd (omega (arith, is))
-  clean_run (Ran program r trace None) right is = absurd (omega (arith, is))
-  clean_run (Ran program r trace (Some (Illegal index rule))) right is = absurd (omega (arith, is))
-  clean_run (Ran program r trace (Some Clean)) right is = record {
-    program = program;
-    text_is = right.0;
-    holds = record { recording = r; trace = trace; run = right.1; is_of = right.2; holds = is_clean trace right.3.1 };
+  clean_run (Reply.Faulty fault) right is = absurd (omega (arith, is))
+  clean_run (Reply.TooLong events) right is = absurd (omega (arith, is))
+  clean_run (Reply.Broken illegal) right is = absurd right
+  clean_run Reply.NoRace right is = absurd right
+  clean_run (Reply.Found j) right is = record {
+    program = right.0.program;
+    text_is = right.0.text_is;
+    holds = record {
+      recording = j.recording;
+      run = right.0.holds;
+      holds = clean_on (trace_of j.recording) j.recording.end (verdict_of j.verdict) right.1.right is;
+    };
   }
-  clean_run (Ran program r trace (Some (Races races))) right is = absurd (omega (arith, is))
 
   -- with RACES it has one
-  pub racy_run : (judged : JudgedRun) → IsJudgedRun limit picks plain bytes judged → judged_status judged ≡ status.RACES
+  pub racy_run : (reply : Reply (JudgedRun A)) → IsJudgedRun limit picks plain bytes reply → reply_status judged_status reply ≡ status.RACES
       → IsProgramWhere (HasRunWhere limit picks IsRacy) bytes
-  racy_run (NoProgram fault) right is = absurd (omega (arith, is))
-  racy_run (Ran program r trace None) right is = absurd (omega (arith, is))
-  racy_run (Ran program r trace (Some (Illegal index rule))) right is = absurd (omega (arith, is))
-  racy_run (Ran program r trace (Some Clean)) right is = absurd (no_end_races r.end is)
-  racy_run (Ran program r trace (Some (Races races))) right is = record {
-    program = program;
-    text_is = right.0;
-    holds = record { recording = r; trace = trace; run = right.1; is_of = right.2; holds = is_racy trace races right.3.1 };
+  racy_run (Reply.Faulty fault) right is = absurd (omega (arith, is))
+  racy_run (Reply.TooLong events) right is = absurd (omega (arith, is))
+  racy_run (Reply.Broken illegal) right is = absurd right
+  racy_run Reply.NoRace right is = absurd right
+  racy_run (Reply.Found j) right is = record {
+    program = right.0.program;
+    text_is = right.0.text_is;
+    holds = record {
+      recording = j.recording;
+      run = right.0.holds;
+      holds = racy_on (trace_of j.recording) j.recording.end (verdict_of j.verdict) right.1.right is;
+    };
   }
 
   -- a right one can be printed
-  pub can_be_printed : {A : Type 0} (found : Found A) → IsJudgedRun limit picks plain bytes (judged_run_of found) → CanBePrinted found
-  can_be_printed (Found.NoProgram fault) right = tt
-  can_be_printed (Found.Ran program r None) right = tt
-  can_be_printed (Found.Ran program r (Some verdict)) right = λ trace decls_are events_are.
-      races_are_of trace verdict (trace_stays (trace_of r) trace (sym decls_are) (sym events_are) right.2.has_text.is_trace)
-      (verdict_stays plain (trace_of r) trace (Some (verdict_of verdict)) (sym decls_are) (sym events_are) right.3).1
+  pub can_be_printed : (j : JudgedRun A) → IsProgramWhere (HasRun limit picks j.recording) bytes → IsJudged plain j → RacesAreOfRun j.recording j.verdict
+  can_be_printed j is judged trace decls_are events_are =
+      let t = trace_of j.recording in
+      races_are_of trace j.verdict (trace_stays t trace (sym decls_are) (sym events_are) is.holds.has_text.is_trace)
+      (verdict_stays plain t trace (Some (verdict_of j.verdict)) (sym decls_are) (sym events_are) (judged.short, judged.right)).1
 
 -- the text of a program has no fault
 pub no_fault_where : (Holds : ProgramState → Type 0) (bytes : List ℕ) → IsProgramWhere Holds bytes → text_fault bytes ≡ None
 no_fault_where Holds bytes w = ap text_fault w.text_is.printed ∙ text_has_no_fault w.program w.text_is.program
 
 -- the status of a judged run
-pub judged_own : (judged : JudgedRun) → IsOfAFinding (judged_status judged)
-judged_own (NoProgram fault) = small status.TEXT_FAULT (omega arith)
-judged_own (Ran program r trace None) = small status.USAGE (omega arith)
-judged_own (Ran program r trace (Some (Illegal index rule))) = small status.ILLEGAL (omega arith)
-judged_own (Ran program r trace (Some Clean)) = end_own r.end
-judged_own (Ran program r trace (Some (Races races))) = large status.RACES (omega arith)
+pub verdict_own : (end : End) (v : Verdict) → IsOfAFinding (status_of_verdict end v)
+verdict_own end (Illegal index rule) = small status.ILLEGAL (omega arith)
+verdict_own end Clean = end_own end
+verdict_own end (Races races) = large status.RACES (omega arith)

@@ -4,15 +4,15 @@ use Rattle.std.proofs.Common.{Option, Some, None, Result, Ok, Err, IfOk, IfErr, 
 use Rattle.std.{proofs.{Common.slice_get, lemmas.List.{map-append, take_all}}, specs.Prelude.IfSome}
 use Rattle.race_legal.proofs.Fronts.{take_next}
 use Rattle.race_records.specs.declared.{event.Event.Event, trace.TheConstants.MAX_EVENTS}
-use Rattle.race_records.specs.{Declarations.{DeclsState, IsWellFormed}, Events.{TraceState, IsTrace, fits}}
+use Rattle.race_records.specs.{Declarations.DeclsState, Events.{TraceState, IsTrace, fits}}
 use Rattle.race_records.specs.Events.{op_is_limited}
-use Rattle.race_text.{specs.Text.text, proofs.WritingLemmas.printed_is}
+use Rattle.race_text.{specs.Text.{HasText, text}, proofs.WritingLemmas.printed_is}
 use Rattle.race_hub.specs.{declared.ending.End.End, Hub.HubState, Opening.IsOpening, Recording.RecordingState}
 use Rattle.race_requests.specs.declared.request.Request.{Request}
 use Rattle.race_script.specs.{Certificate.IsCertified, Program.ProgramState, Run.{ScriptState, Asks}}
 use Rattle.race_record.specs.{Recorded.IsRecordingOf, Serial.{IsSerial, IsTurnedAway}}
-use Rattle.race_tool.specs.{Outcome.IsOfAFinding, Recorded.trace_of, Run.{scripts_of, status_of_end, IsRunOf}}
-use Rattle.race_tool.specs.Run.{IsUncertified, IsRefusedRun, IsTraceOf, Run, NoProgram, Ran, run_status}
+use Rattle.race_tool.specs.{Outcome.IsOfAFinding, Run.{scripts_of, status_of_end, trace_of, HasRun, IsRunOf}}
+use Rattle.race_tool.specs.Run.{IsUncertified, IsRefusedRun}
 use Rattle.race_tool.proofs.StatusLemmas.{small, middle}
 use Rattle.race_tool.specs.declared.status.TheConstants as status
 
@@ -52,17 +52,19 @@ module _ (program : ProgramState) (limit : ℕ) (picks : Option (List ℕ)) (dec
 
   -- what was recorded was held against the program
   module _ (r : RecordingState) (serial : IfSome picks (λ list. IsSerial Asks list hub r)) where
-    pub certified_run : {E : Type 0} (answer : Result RecordingState E) → IsRecordingOf hub r
-        → IfOk answer (λ s. s ≡ r) → IfOk answer (λ s. IsCertified program s) → IfOk answer (λ s. IsRunOf limit picks program s)
-    certified_run (Ok s) recording is certified =
-        subst (λ (x : RecordingState). IsRunOf limit picks program x) (sym is) record {
-          hub = hub;
-          opens = opens_program;
-          recording = recording;
-          serial = serial;
-          certified = subst (λ (x : RecordingState). IsCertified program x) is certified;
-        }
-    certified_run (Err e) recording is certified = tt
+    pub certified_run : {E : Type 0} (answer : Result RecordingState E) → IsRecordingOf hub r → IfOk answer (λ s. s ≡ r)
+        → IfOk answer (λ s. IsCertified program s) → IfOk answer (λ s. HasText (trace_of s)) → IfOk answer (λ s. HasRun limit picks s program)
+    certified_run (Ok s) recording is certified has_text = record {
+      run = subst (λ (x : RecordingState). IsRunOf limit picks program x) (sym is) record {
+        hub = hub;
+        opens = opens_program;
+        recording = recording;
+        serial = serial;
+        certified = subst (λ (x : RecordingState). IsCertified program x) is certified;
+      };
+      has_text = has_text;
+    }
+    certified_run (Err e) recording is certified has_text = tt
 
     pub uncertified_run : {E : Type 0} (answer : Result RecordingState E) (e : E) → IfErr answer (λ _. IsCertified program r → ⊥) → answer ≡ Err e
         → IsRefusedRun limit picks program
@@ -86,18 +88,6 @@ trace_stays t u decls_are events_are is = record {
   limited = subst (λ (es : List Event). length es ≤ MAX_EVENTS) events_are is.limited;
 }
 
--- the recording's trace, once its declarations and events were looked at
-pub is_trace_of : (r : RecordingState) (trace : TraceState) (decls : DeclsState) → trace.decls ≡ r.decls → trace.events ≡ r.events
-    → decls ≡ trace.decls → IsWellFormed decls → IsTrace trace → IsTraceOf r (trace_of r)
-is_trace_of r trace decls decls_are events_are same well_formed is_trace = record {
-  decls = refl;
-  events = refl;
-  has_text = record {
-    well_formed = subst IsWellFormed (same ∙ decls_are) well_formed;
-    is_trace = trace_stays trace (trace_of r) decls_are events_are is_trace;
-  };
-}
-
 -- it has the text of each trace that has the same declarations and events
 pub same_text : (r : RecordingState) (trace : TraceState) → trace.decls ≡ r.decls → trace.events ≡ r.events → text trace ≡ text (trace_of r)
 same_text r trace decls_are events_are =
@@ -110,7 +100,3 @@ end_own End.Fault = middle status.FAILED (omega arith) (omega arith)
 end_own End.Deadlock = middle status.DEADLOCK (omega arith) (omega arith)
 end_own End.Limit = middle status.LIMIT (omega arith) (omega arith)
 end_own (End.Bad g) = middle status.BAD_REQUEST (omega arith) (omega arith)
-
-pub run_own : (run : Run) → IsOfAFinding (run_status run)
-run_own (NoProgram fault) = small status.TEXT_FAULT (omega arith)
-run_own (Ran program r trace) = end_own r.end

@@ -6,7 +6,7 @@ use Rattle.race_records.specs.Events.{TraceState}
 use Rattle.race_text.{specs.Fault.text_fault, proofs.TextFine.text_has_no_fault}
 use Rattle.race_verdict.specs.Traces.{capacities, HasVerdict, IsClean, IsRacy, IsIllegal}
 use Rattle.race_tool.specs.Finding.{Finding, Faulty, TooLong, Judged, IsFinding, IsTextWhere, status_of}
-use Rattle.race_tool.specs.{Listing.{Listing, NoTrace, TooMany, Broken, Listed, listing_status}, Outcome.IsOfAFinding}
+use Rattle.race_tool.specs.Outcome.{IsOfAFinding}
 use Rattle.race_tool.specs.declared.status.TheConstants as status
 
 -- clean: no race, so each read finds the same write in every reordering
@@ -81,18 +81,3 @@ module _ (n : ℕ) where
     served = λ is. absurd (omega (arith, is, more));
     recorded = λ is. absurd (omega (arith, is, more));
   }
-
--- so do those of a finding
-pub finding_own : (finding : Finding) → IsOfAFinding (status_of finding)
-finding_own (Faulty fault) = small status.TEXT_FAULT (omega arith)
-finding_own (TooLong events) = small status.USAGE (omega arith)
-finding_own (Judged trace (Illegal index rule)) = small status.ILLEGAL (omega arith)
-finding_own (Judged trace Clean) = small status.CLEAN (omega arith)
-finding_own (Judged trace (Races races)) = large status.RACES (omega arith)
-
--- of a listing
-pub listing_own : (listing : Listing) → IsOfAFinding (listing_status listing)
-listing_own (NoTrace fault) = small status.TEXT_FAULT (omega arith)
-listing_own (TooMany events) = small status.USAGE (omega arith)
-listing_own (Broken trace index rule) = small status.ILLEGAL (omega arith)
-listing_own (Listed trace edges) = small status.CLEAN (omega arith)

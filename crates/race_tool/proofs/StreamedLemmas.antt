@@ -6,13 +6,13 @@ use Rattle.race_records.specs.declared.{event.Event.Event, kind.Kind.Kind, trace
 use Rattle.race_records.specs.{Declarations.{Declaration, DeclsState, capacity_of}, Events.{TraceState, IsTrace}}
 use Rattle.race_model.specs.Verdict.{IsVerdict}
 use Rattle.race_legal.{specs.ReplayState.IsInRange, proofs.RangeLemmas.range_from_fits}
-use Rattle.race_verdict.specs.{declared.notes.NotedVerdict.NotedVerdict, Notes.{verdict_noted, IsNotedOf}}
+use Rattle.race_verdict.specs.{declared.report.Report.Report, Notes.{verdict_noted, IsNotedOf}}
 use Rattle.race_shards.specs.Judging.{JudgeState, CanTake, GoesOn, Tells, Notes}
 use Rattle.race_text.specs.{declared.stream.EventStream.EventStream, Grammar.ForEachLines, Reader.trace_read, Taking.behind}
 use Rattle.race_text.specs.Stream.{Known, StandsWith, DeclaresNothing, HasDeclared, trace_with, decls_of, events_of, has_events}
 use Rattle.race_text.proofs.StreamLemmas.{nothing_past, read_behind}
 use Rattle.race_tool.specs.declared.handed.Handed.{Handed}
-use Rattle.race_tool.specs.Streams.{IsJudgeOf, IsHanded, IsNotedVerdict, StandsBehind, known_behind}
+use Rattle.race_tool.specs.Streams.{IsJudgeOf, IsHanded, IsReport, StandsBehind, known_behind}
 use Rattle.race_shards.specs.Judging as judging
 use Rattle.race_text.specs.Grammar as grammar
 
@@ -64,8 +64,8 @@ module _ {A : Type 0} (s : EventStream A) (past : List Event) (lines : List (Lis
   )
 
   -- the verdict of the judge behind them is right
-  pub verdict_is : {B : Type 0} (k : JudgeState) (verdict : NotedVerdict B) → judging.StandsFor (decls_of s).declarations k (past ++ events_of s)
-      → Tells k (verdict_noted verdict) → Notes k verdict → IsNotedVerdict (trace_with past s) verdict
+  pub verdict_is : {B : Type 0} (k : JudgeState) (verdict : Report B) → judging.StandsFor (decls_of s).declarations k (past ++ events_of s)
+      → Tells k (verdict_noted verdict) → Notes k verdict → IsReport (trace_with past s) verdict
   verdict_is k verdict J tells notes = record {
     right = subst (λ ds. IsVerdict (capacity_of ds) (trace_with past s).events (verdict_noted verdict)) (ap (λ (ds : DeclsState). ds.declarations) (sym (decls_with s past)))
         (subst (λ (es : List Event). IsVerdict (capacity_of (decls_of s).declarations) es (verdict_noted verdict)) (sym events_with)

@@ -1,60 +1,52 @@
--- What there is to draw of a list of bytes, what is printed of it, and with which status.
-use Rattle.std.specs.Prelude.{ℕ, ◌≡◌, ◌⊎◌, ◌&&◌, nat_lt, nat_le, Bool, true, false, IsTrue, List, [], ◌∷◌, map, length}
-use Rattle.std.specs.Prelude.{Option, Some, None}
-use Rattle.race_records.specs.Events.{TraceState}
-use Rattle.race_model.specs.{Legal.{IsLegal, IsIllegalAt}, Race.IsReportedRace}
-use Rattle.race_text.specs.{declared.cause.TextFault.TextFault, Fault.text_fault, Text.IsTextOf}
+-- Which reply is right where drawings of a trace are asked for.
+use Rattle.std.specs.{Prelude.{ℕ, ◌≡◌, ◌⊎◌, ◌&&◌, nat_lt, nat_le, Bool, true, false, IsTrue, List, [], ◌∷◌, map}, Borrow.Bor}
+use Rattle.std.specs.Prelude.{length, Option, Some, None}
+use Rattle.race_records.specs.{declared.{source.Source.Source, sink.Sink.Sink}, Events.TraceState}
+use Rattle.race_model.specs.{Legal.IsLegal, Race.IsReportedRace}
+use Rattle.race_text.specs.{Fault.{text_fault, trace_causes}, Text.IsTextOf}
 use Rattle.race_verdict.specs.{declared.races.Race.Race, Races.race_of, Traces.{capacities, HasVerdict}}
-use Rattle.race_report.specs.Report.{fault_line, illegal_line, report}
+use Rattle.race_report.specs.Report.{report}
 use Rattle.race_draw.specs.{Layout.{LayoutState, AreLayoutsOf}, Text.drawings_text}
 use Rattle.race_draw.specs.{declared.clean.TheConstants.MAX_CLEAN_EVENTS, Clean.{CleanState, IsCleanLayoutOf}}
 use Rattle.race_draw.specs.{Chart.chart_text, Svg.svg_text}
-use Rattle.race_tool.specs.Witness.{IsVar, HasNoRace, no_race_line}
+use Rattle.race_tool.specs.{declared.{draw.Drawn.Drawn, reply.Reply.Reply}, Finding.IsTextWhere, Outcome.{Answers, Never}}
+use Rattle.race_tool.specs.{Reply.{IsBrokenBy, reply_text, reply_status}, Witness.{IsVar, HasNoRace}}
 use Rattle.race_model.specs.Verdict as model
 use Rattle.race_tool.specs.declared.status.TheConstants as status
 
--- what there is to draw of a list of bytes and a name, or of a list of bytes alone
-pub data Drawing : Type 0 where
-  -- it is the text of no trace: its first line at fault, with the least cause
-  NoText : (fault : TextFault) → Drawing
-  -- it is the text of this trace, of which an event breaks a rule: its index, and the least rule
-  Breaks : (trace : TraceState) (index rule : ℕ) → Drawing
-  -- it is the text of a legal trace in which no variable of this name has a race
-  NoRace : Drawing
-  -- there is no name, and it is the text of this trace, which is clean and has no chart
-  Clean : (trace : TraceState) → Drawing
-  -- it is the text of a legal trace, and this is the text of what is asked for
-  Drawn : (text : List ℕ) → Drawing
-  -- the same, where an SVG document is asked for
-  Pictured : (text : List ℕ) → Drawing
+-- the bytes of the name, where there is one
+abbrev pub name_in : Option (Bor (List ℕ)) → Option (List ℕ)
+name_in None = None
+name_in (Some name) = Some name.now
+
+-- these are all races that are reported of the trace
+abbrev pub AreRacesOf : TraceState → List Race → Type 0
+AreRacesOf trace races = HasVerdict trace (model.Races (map race_of races))
 
 -- these races are asked for: all that are reported, or the one on the variable of this name
 abbrev pub AreAsked : TraceState → Option (List ℕ) → List Race → Type 0
-AreAsked trace None races = HasVerdict trace (model.Races (map race_of races))
+AreAsked trace None races = AreRacesOf trace races
 AreAsked trace (Some name) races =
     (race : Race) × (races ≡ race ∷ []) × IsVar trace name race.var
     × IsReportedRace (capacities trace) trace.events race.var race.first race.second
 
--- the layouts are those of the races that are asked for
-pub record AreDrawnOn (trace : TraceState) (name : Option (List ℕ)) (layouts : List LayoutState) : Type 0 where
+-- the text is that of the drawings of these races
+pub record IsTextOfDrawings (trace : TraceState) (races : List Race) (text : List ℕ) : Type 0 where
+  pub layouts : List LayoutState
+  pub laid_out : AreLayoutsOf trace races layouts
+  pub drawn : text ≡ drawings_text trace layouts
+
+-- the text is that of the drawings of the races that are asked for
+pub record IsTextOfRaces (trace : TraceState) (name : Option (List ℕ)) (text : List ℕ) : Type 0 where
   pub legal : IsLegal (capacities trace) trace.events
   pub races : List Race
   pub asked : AreAsked trace name races
-  pub laid_out : AreLayoutsOf trace races layouts
-
--- the text is that of their drawings
-abbrev pub IsTextOfRaces : TraceState → Option (List ℕ) → List ℕ → Type 0
-IsTextOfRaces trace name text = (layouts : List LayoutState) × AreDrawnOn trace name layouts × (text ≡ drawings_text trace layouts)
-
--- a text as it is shown, as an SVG document or not
-abbrev pub shown : Bool → List ℕ → Drawing
-shown true text = Pictured text
-shown false text = Drawn text
+  pub drawings : IsTextOfDrawings trace races text
 
 -- there is a name, which is that of no variable with a race
 abbrev pub HasNoRaceOn : Option (List ℕ) → TraceState → Type 0
 HasNoRaceOn None trace = ⊥
-HasNoRaceOn (Some name) trace = HasNoRace trace name
+HasNoRaceOn (Some name) trace = HasNoRace name trace
 
 -- there is no name, and the trace is clean
 abbrev pub IsCleanWithout : Option (List ℕ) → TraceState → Type 0
@@ -77,30 +69,33 @@ IsTextOfClean trace name text = IsCleanWithout name trace × IsTrue (has_chart (
 abbrev pub IsDrawnText : TraceState → Option (List ℕ) → List ℕ → Type 0
 IsDrawnText trace name text = IsTextOfRaces trace name text ⊎ IsTextOfClean trace name text
 
--- what is drawn, as an SVG document or not, is right for the name and the bytes
-abbrev pub IsDrawing : Option (List ℕ) → Bool → List ℕ → Drawing → Type 0
-IsDrawing name svg bytes (NoText fault) = text_fault bytes ≡ Some fault
-IsDrawing name svg bytes (Breaks trace index rule) = IsTextOf trace bytes × IsIllegalAt (capacities trace) trace.events index rule
-IsDrawing name svg bytes NoRace =
-    (trace : TraceState) × IsTextOf trace bytes × IsLegal (capacities trace) trace.events × HasNoRaceOn name trace
-IsDrawing name svg bytes (Clean trace) = IsTextOf trace bytes × IsCleanWithout name trace × (has_chart (length trace.events) ≡ false)
-IsDrawing name svg bytes (Drawn text) = (trace : TraceState) × IsTextOf trace bytes × (svg ≡ false) × IsDrawnText trace name text
-IsDrawing name svg bytes (Pictured text) = (trace : TraceState) × IsTextOf trace bytes × (svg ≡ true) × IsDrawnText trace name text
+-- this is drawn of the trace, as an SVG document or not: a clean trace that has no chart as the line of its report, where there is no name
+abbrev pub IsDrawnOf : {A : Type 0} → Option (List ℕ) → Bool → TraceState → Drawn A → Type 0
+IsDrawnOf name svg trace (Drawn.Clean shown) = (shown ≡ trace) × IsCleanWithout name trace × (has_chart (length trace.events) ≡ false)
+IsDrawnOf name svg trace (Drawn.Text text) = (svg ≡ false) × IsDrawnText trace name text.items
+IsDrawnOf name svg trace (Drawn.Svg text) = (svg ≡ true) × IsDrawnText trace name text.items
 
--- what is printed
-abbrev pub drawing_text : Drawing → List ℕ
-drawing_text (NoText fault) = fault_line fault
-drawing_text (Breaks trace index rule) = illegal_line index rule
-drawing_text NoRace = no_race_line
-drawing_text (Clean trace) = report trace model.Clean
-drawing_text (Drawn text) = text
-drawing_text (Pictured text) = svg_text text
+-- the reply is right for the name and the bytes
+abbrev pub IsDrawing : {A : Type 0} → Option (List ℕ) → Bool → List ℕ → Reply (Drawn A) → Type 0
+IsDrawing name svg bytes (Reply.Faulty fault) = text_fault bytes ≡ Some fault
+IsDrawing name svg bytes (Reply.Broken illegal) = IsTextWhere (IsBrokenBy illegal) bytes
+IsDrawing name svg bytes Reply.NoRace = IsTextWhere (HasNoRaceOn name) bytes
+IsDrawing name svg bytes (Reply.Found drawn) = IsTextWhere (λ trace. IsDrawnOf name svg trace drawn) bytes
+IsDrawing name svg bytes (Reply.TooLong events) = ⊥
 
--- the status
-abbrev pub drawing_status : Drawing → ℕ
-drawing_status (NoText fault) = status.TEXT_FAULT
-drawing_status (Breaks trace index rule) = status.ILLEGAL
-drawing_status NoRace = status.NO_RACE
-drawing_status (Clean trace) = status.CLEAN
-drawing_status (Drawn text) = status.CLEAN
-drawing_status (Pictured text) = status.CLEAN
+-- what is printed of what was drawn
+abbrev pub drawing_text : {A : Type 0} → Drawn A → List ℕ
+drawing_text (Drawn.Clean trace) = report trace model.Clean
+drawing_text (Drawn.Text text) = text.items
+drawing_text (Drawn.Svg text) = svg_text text.items
+
+-- and with which status
+abbrev pub drawing_status : {A : Type 0} → Drawn A → ℕ
+drawing_status drawn = status.CLEAN
+
+-- the races that are asked for were drawn
+abbrev pub Draws : (A : Type 0) → {R W : Type 0} → Option (List ℕ) → Bool → (R → Option (List ℕ)) → (W → Option (List ℕ))
+    → Source R → Source R → Sink W → Sink W → ℕ → Type 0
+Draws A name svg remaining contents source source_now sink sink_now answer =
+    Answers trace_causes (IsDrawing {A = A} name svg) (reply_text drawing_text) (reply_status drawing_status) Never
+    remaining contents source source_now sink sink_now answer

@@ -1,23 +1,24 @@
--- A finding of the code as the definition has it.
-use Rattle.std.specs.Prelude.{ℕ, Bool, List, ⊤}
-use Rattle.race_records.specs.Events.{TraceState}
-use Rattle.race_text.specs.Text.{IsTextOf}
-use Rattle.race_tool.specs.Finding as spec
-use Rattle.race_tool.specs.declared.finding.Finding.{Finding}
-use Rattle.race_report.specs.Printable.{RacesAreOf}
-use Rattle.race_verdict.specs.Verdicts.{verdict_of}
+-- Which reply of the plain judge is right.
+use Rattle.std.specs.Prelude.{ℕ, ◌≡◌, ◌≤◌, List, length, Some}
+use Rattle.race_edges.specs.declared.fault.TheConstants.{MAX_PLAIN_EVENTS}
+use Rattle.race_text.specs.{Fault.text_fault, Text.IsTextOf}
+use Rattle.race_verdict.specs.{Traces.HasVerdict, Verdicts.verdict_of}
+use Rattle.race_report.specs.Report.{report}
+use Rattle.race_tool.specs.{declared.{check.Judged.Judged, reply.Reply.Reply}, Finding.{IsTextWhere, status_of_verdict}}
+use Rattle.race_tool.specs.Reply.{IsTooLong}
 
--- what the finding says
-abbrev pub finding_of : {A : Type 0} → Finding A → spec.Finding
-finding_of (Finding.Faulty fault) = spec.Faulty fault
-finding_of (Finding.TooLong events) = spec.TooLong events
-finding_of (Finding.Judged trace verdict) = spec.Judged trace (verdict_of verdict)
+-- the reply is right for the bytes
+abbrev pub IsJudged : {A : Type 0} → List ℕ → Reply (Judged A) → Type 0
+IsJudged bytes (Reply.Faulty fault) = text_fault bytes ≡ Some fault
+IsJudged bytes (Reply.TooLong events) = IsTextWhere (IsTooLong events) bytes
+IsJudged bytes (Reply.Found judged) =
+    IsTextOf judged.trace bytes × (length judged.trace.events ≤ MAX_PLAIN_EVENTS) × HasVerdict judged.trace (verdict_of judged.verdict)
+IsJudged bytes _ = ⊥
 
--- the finding is right for each list of bytes that is the text of the trace
-abbrev pub IsFindingOn : Bool → TraceState → spec.Finding → Type 0
-IsFindingOn plain trace finding = (bytes : List ℕ) → IsTextOf trace bytes → spec.IsFinding plain bytes finding
+-- what is printed of a trace with its verdict
+abbrev pub judged_text : {A : Type 0} → Judged A → List ℕ
+judged_text judged = report judged.trace (verdict_of judged.verdict)
 
--- a finding that can be printed
-abbrev pub IsPrintable : {A : Type 0} → Finding A → Type 0
-IsPrintable (Finding.Judged trace verdict) = RacesAreOf trace verdict
-IsPrintable _ = ⊤
+-- and with which status
+abbrev pub judged_status : {A : Type 0} → Judged A → ℕ
+judged_status judged = status_of_verdict (verdict_of judged.verdict)

@@ -1,13 +1,12 @@
 -- How an engine ends: what was read, what was written, and which device failed.
-use Rattle.std.specs.Prelude.{ℕ, ◌≡◌, ◌≢◌, ◌⊎◌, ◌&&◌, nat_le, Bool, List, Option, Result, Ok, Err, IfOk}
+use Rattle.std.specs.Prelude.{ℕ, ◌≡◌, ◌≢◌, ◌⊎◌, ◌&&◌, nat_le, Bool, List, Option, Result, Ok, Err, IfOk, MatchResult, ⊤}
 use Rattle.std.specs.Io.KnownBytes.{Appends}
-use Rattle.race_records.specs.{declared.{source.Source.Source, sink.Sink.Sink}, Devices.{unread, written}}
+use Rattle.race_records.specs.{declared.{source.Source.Source, sink.{Sink.Sink, WriteFault.WriteFault}}, Devices.{unread, written}}
 use Rattle.race_records.specs.{Devices.{source_failures, sink_failures, one_more}, Page.IsCutOff}
-use Rattle.race_tool.specs.declared.{check.CheckOptions.CheckOptions, engine.NoFinding.NoFinding}
+use Rattle.race_tool.specs.declared.{check.CheckOptions.CheckOptions, engine.Unanswered.Unanswered}
 use Rattle.race_tool.specs.{declared.input.ReadFault.ReadFault, Input.{Reads, ReadsAll, ReadsFine, ReadsMany, IsInput}}
-use Rattle.race_tool.specs.Input.{IsReadBy}
 use Rattle.race_shards.specs.declared.fault.TheConstants.{MAX_SHARDS, MAX_BLOCK}
-use Rattle.race_text.specs.{declared.cause.TextFault.TextFault, Lines.Causes}
+use Rattle.race_text.specs.{declared.cause.TextFault.TextFault, Lines.Causes, Output.Writes}
 use Rattle.race_tool.specs.declared.status.TheConstants as status
 
 -- each option is in its limits
@@ -26,26 +25,27 @@ pub record IsOfAFinding (answer : ℕ) : Type 0 where
   pub served : answer ≢ status.DEVICE
   pub recorded : answer ≢ status.MISMATCH
 
+-- of a trace there is nothing to record
+abbrev pub Never : List ℕ → Type 0
+Never bytes = ⊥
+
 -- An engine has findings on a list of bytes, of which it knows which are right, and a text and a status for each.
 
 -- right for the input of which these bytes were read, whatever follows them in it
 abbrev pub IsRightFor : {F : Type 0} → (List ℕ → F → Type 0) → List ℕ → Bool → F → Type 0
 IsRightFor IsRight bytes to_end finding = (whole : List ℕ) → IsInput bytes to_end whole → IsRight whole finding
 
--- right for all bytes that are read so
-abbrev pub IsRightBy : {V F : Type 0} → (V → List ℕ → Type 0) → Causes → (List ℕ → F → Type 0) → Result V TextFault → F → Type 0
-IsRightBy IsText causes IsRight text finding = (bytes : List ℕ) → IsReadBy IsText causes bytes text → IsRight bytes finding
+-- the reply to what was read is right for each list of bytes whose text it is, or of these nothing was recorded
+pub record Replies {V F : Type 0} (IsText : V → List ℕ → Type 0) (IsRight : List ℕ → F → Type 0) (IsUnrecorded : List ℕ → Type 0)
+    (whole : V) (reply : Result F Unanswered) : Type 0 where
+  pub ok : IfOk reply (λ r. (bytes : List ℕ) → IsText whole bytes → IsRight bytes r)
+  pub mismatch : reply ≡ Err Unanswered.Unrecorded → (bytes : List ℕ) → IsText whole bytes → IsUnrecorded bytes
 
--- something was read, and this holds of the bytes whose text it is
-abbrev pub IsTextOnly : {V : Type 0} → (V → List ℕ → Type 0) → (List ℕ → Type 0) → Result V TextFault → Type 0
-IsTextOnly IsText Holds (Ok value) = (bytes : List ℕ) → IsText value bytes → Holds bytes
-IsTextOnly IsText Holds (Err fault) = ⊥
-
--- what was found of what was read: it is right, or of a text whose this holds nothing was recorded
-pub record Finds {V F : Type 0} (IsText : V → List ℕ → Type 0) (causes : Causes) (IsRight : List ℕ → F → Type 0)
-    (IsUnrecorded : List ℕ → Type 0) (text : Result V TextFault) (found : Result F NoFinding) : Type 0 where
-  pub ok : IfOk found (λ f. IsRightBy IsText causes IsRight text f)
-  pub mismatch : found ≡ Err NoFinding.Unrecorded → IsTextOnly IsText IsUnrecorded text
+-- the text was written and the status is its, or a write failed
+pub record Sends {W : Type 0} (contents : W → Option (List ℕ)) (sink sink_now : Sink W) (text : List ℕ) (own answer : ℕ) : Type 0 where
+  pub result : Result ⊤ WriteFault
+  pub writes : Writes contents result sink sink_now text
+  pub status_is : MatchResult result (λ _. (answer ≡ own) × IsOfAFinding own) (λ _. answer ≡ status.DEVICE)
 
 -- the text of a right finding was written, and the status is the finding's
 pub record WritesText {F : Type 0} (IsRight : F → Type 0) (text : F → List ℕ)

@@ -1,33 +1,38 @@
--- What the judge of a run finds of a list of bytes, what it prints of it, and with which status.
-use Rattle.std.specs.Prelude.{ℕ, ◌≡◌, ◌++◌, Bool, List, length, Option, Some, None}
-use Rattle.race_records.specs.Events.{TraceState}
+-- Which reply is right where a program is run and the run is judged.
+use Rattle.std.specs.Prelude.{ℕ, ◌≡◌, ◌≢◌, ◌++◌, ◌≤◌, Bool, IsTrue, List, length, Option, Some}
+use Rattle.race_records.specs.{declared.{source.Source.Source, sink.Sink.Sink}, Devices.unread, Events.TraceState}
 use Rattle.race_model.specs.Verdict.{Verdict, Illegal, Clean, Races}
-use Rattle.race_text.specs.declared.cause.TextFault.{TextFault}
+use Rattle.race_edges.specs.declared.fault.TheConstants.{MAX_PLAIN_EVENTS}
+use Rattle.race_verdict.specs.{declared.{verdict.{Verdict.{Verdict as Found}}}, Verdicts.verdict_of}
+use Rattle.race_verdict.specs.Traces.{HasVerdict, IsClean, IsRacy}
 use Rattle.race_hub.specs.{declared.ending.End.End, Recording.RecordingState}
-use Rattle.race_script.specs.{Fault.text_fault, Program.ProgramState, Text.IsTextOf}
-use Rattle.race_report.specs.Report.{fault_line, report}
-use Rattle.race_tool.specs.{Finding.IsVerdictOn, Report.{too_long_line, end_line}}
-use Rattle.race_tool.specs.Run.{IsRunOf, IsTraceOf, status_of_end}
+use Rattle.race_script.specs.{Fault.{text_fault, program_causes}, Program.ProgramState}
+use Rattle.race_report.specs.{Printable.RacesAreOf, Report.report}
+use Rattle.race_tool.specs.{declared.{race.JudgedRun.JudgedRun, reply.Reply.Reply}, Outcome.{Answers, ReadsWhere}}
+use Rattle.race_tool.specs.{Reply.{IsTooLong, reply_text, reply_status}, Report.end_line}
+use Rattle.race_tool.specs.Run.{trace_of, HasRun, IsProgramWhere, IsUnrecorded, status_of_end}
 use Rattle.race_tool.specs.declared.status.TheConstants as status
 
--- what there is to say of a list of bytes
-pub data JudgedRun : Type 0 where
-  -- it is the text of no program: its first line at fault, with the least cause
-  NoProgram : (fault : TextFault) → JudgedRun
-  -- it is the text of this program, and this was recorded of a run of it, with this trace, which has this verdict: none where it has more
-  -- events than the plain judge takes
-  Ran : (program : ProgramState) (recording : RecordingState) (trace : TraceState) (verdict : Option Verdict) → JudgedRun
+-- the recording's trace has so many events, more than the plain judge takes
+abbrev pub IsTooLongRun : ℕ → Option (List ℕ) → ℕ → ProgramState → Type 0
+IsTooLongRun limit picks events program = (r : RecordingState) × HasRun limit picks r program × IsTooLong events (trace_of r)
 
--- the finding is right for the bytes, where the plain judge is wanted or not
-abbrev pub IsJudgedRun : ℕ → Option (List ℕ) → Bool → List ℕ → JudgedRun → Type 0
-IsJudgedRun limit picks plain bytes (NoProgram fault) = text_fault bytes ≡ Some fault
-IsJudgedRun limit picks plain bytes (Ran program r trace verdict) =
-    IsTextOf program bytes × IsRunOf limit picks program r × IsTraceOf r trace × IsVerdictOn plain trace verdict
+-- the verdict is right for the recording's trace, where the plain judge is wanted or not
+pub record IsJudged {A : Type 0} (plain : Bool) (judged : JudgedRun A) : Type 0 where
+  pub short : IsTrue plain → length judged.recording.events ≤ MAX_PLAIN_EVENTS
+  pub right : HasVerdict (trace_of judged.recording) (verdict_of judged.verdict)
 
--- what is printed of a recording's trace: its report, and how the run ended; or, where it is too long for the plain judge, that alone
-abbrev pub verdict_text : RecordingState → TraceState → Option Verdict → List ℕ
-verdict_text r trace None = too_long_line (length trace.events)
-verdict_text r trace (Some verdict) = report trace verdict ++ end_line trace.decls.declarations r.end
+-- the reply is right for the bytes, where the plain judge is wanted or not
+abbrev pub IsJudgedRun : {A : Type 0} → ℕ → Option (List ℕ) → Bool → List ℕ → Reply (JudgedRun A) → Type 0
+IsJudgedRun limit picks plain bytes (Reply.Faulty fault) = text_fault bytes ≡ Some fault
+IsJudgedRun limit picks plain bytes (Reply.TooLong events) = IsTrue plain × IsProgramWhere (IsTooLongRun limit picks events) bytes
+IsJudgedRun limit picks plain bytes (Reply.Found judged) = IsProgramWhere (HasRun limit picks judged.recording) bytes × IsJudged plain judged
+IsJudgedRun limit picks plain bytes _ = ⊥
+
+-- what is printed of a judged run: the report of its trace, and how it ended
+abbrev pub judged_text : {A : Type 0} → JudgedRun A → List ℕ
+judged_text judged =
+    report (trace_of judged.recording) (verdict_of judged.verdict) ++ end_line judged.recording.decls.declarations judged.recording.end
 
 -- the status: there are races, or else how the run ended
 abbrev pub status_of_verdict : End → Verdict → ℕ
@@ -35,24 +40,27 @@ status_of_verdict end (Races races) = status.RACES
 status_of_verdict end (Illegal index rule) = status.ILLEGAL
 status_of_verdict end Clean = status_of_end end
 
-abbrev pub verdict_status : RecordingState → Option Verdict → ℕ
-verdict_status r None = status.USAGE
-verdict_status r (Some verdict) = status_of_verdict r.end verdict
+abbrev pub judged_status : {A : Type 0} → JudgedRun A → ℕ
+judged_status judged = status_of_verdict judged.recording.end (verdict_of judged.verdict)
 
--- what is printed
-abbrev pub judged_text : JudgedRun → List ℕ
-judged_text (NoProgram fault) = fault_line fault
-judged_text (Ran program r trace verdict) = verdict_text r trace verdict
-
--- the status
-abbrev pub judged_status : JudgedRun → ℕ
-judged_status (NoProgram fault) = status.TEXT_FAULT
-judged_status (Ran program r trace verdict) = verdict_status r verdict
+-- the races of the verdict are of the recording's trace
+abbrev pub RacesAreOfRun : {A : Type 0} → RecordingState → Found A → Type 0
+RacesAreOfRun r verdict = (trace : TraceState) → trace.decls ≡ r.decls → trace.events ≡ r.events → RacesAreOf trace verdict
 
 -- a run of the program, by the picks if there are any, has a trace of which this holds
 pub record HasRunWhere (limit : ℕ) (picks : Option (List ℕ)) (Holds : TraceState → Type 0) (program : ProgramState) : Type 0 where
   pub recording : RecordingState
-  pub trace : TraceState
-  pub run : IsRunOf limit picks program recording
-  pub is_of : IsTraceOf recording trace
-  pub holds : Holds trace
+  pub run : HasRun limit picks recording program
+  pub holds : Holds (trace_of recording)
+
+-- a program was run, and the run was judged, by the plain judge or not. No event of a run breaks a rule. With CLEAN a run (by the picks, if there
+-- are any) has no data race (that main returned in it, `answers` says); with RACES one has
+pub record Judges (A : Type 0) {R W : Type 0} (limit : ℕ) (picks : Option (List ℕ)) (plain : Bool) (remaining : R → Option (List ℕ))
+    (contents : W → Option (List ℕ)) (source source_now : Source R) (sink sink_now : Sink W) (answer : ℕ) : Type 0 where
+  pub answers : Answers program_causes (IsJudgedRun {A = A} limit picks plain) (reply_text judged_text) (reply_status judged_status)
+      (IsUnrecorded limit picks) remaining contents source source_now sink sink_now answer
+  pub legal : answer ≢ status.ILLEGAL
+  pub clean : answer ≡ status.CLEAN
+      → ReadsWhere (IsProgramWhere (HasRunWhere limit picks IsClean)) (unread remaining source) (unread remaining source_now)
+  pub races : answer ≡ status.RACES
+      → ReadsWhere (IsProgramWhere (HasRunWhere limit picks IsRacy)) (unread remaining source) (unread remaining source_now)

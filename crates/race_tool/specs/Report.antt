@@ -25,3 +25,7 @@ end_name ds _ = []
 -- how a run ended
 unfoldable pub end_line : List Declaration → End → List ℕ
 end_line ds end = concat (codes "end: " ∷ end_word end ∷ end_name ds end ∷ newline ∷ [])
+
+-- the variable has no race, or the name is that of none
+unfoldable pub no_race_line : List ℕ
+no_race_line = concat (codes "no such race" ∷ newline ∷ [])

@@ -1,24 +1,17 @@
--- What a run finds of a list of bytes, what it prints of it, and with which status.
+-- Which reply is right where a program is run.
 use Rattle.std.specs.Prelude.{ℕ, ◌≡◌, ◌&&◌, ◌⊎◌, nat_le, Bool, List, map, Option, Some, IfSome}
-use Rattle.race_records.specs.{declared.trace.TheConstants.MAX_EVENTS, Events.TraceState}
-use Rattle.race_text.specs.{declared.cause.TextFault.TextFault, Text.{HasText, text}}
+use Rattle.race_records.specs.{declared.{source.Source.Source, sink.Sink.Sink, trace.TheConstants.MAX_EVENTS}, Events.TraceState}
+use Rattle.race_text.specs.Text.{HasText, text}
 use Rattle.race_hub.specs.{declared.ending.End.End, Hub.HubState, Opening.IsOpening, Recording.RecordingState}
-use Rattle.race_script.specs.{Certificate.IsCertified, Fault.text_fault, Program.ProgramState, Run.{ScriptState, Asks}}
+use Rattle.race_script.specs.{Certificate.IsCertified, Fault.{text_fault, program_causes}, Program.ProgramState, Run.{ScriptState, Asks}}
 use Rattle.race_script.specs.Text.{IsTextOf}
 use Rattle.race_record.specs.{Recorded.IsRecordingOf, Serial.{IsSerial, IsTurnedAway}}
-use Rattle.race_report.specs.Report.{fault_line}
+use Rattle.race_tool.specs.{declared.reply.Reply.Reply, Outcome.Answers, Reply.{reply_text, reply_status}}
 use Rattle.race_tool.specs.declared.status.TheConstants as status
 
 -- the limit on the events of a run is in its own limits
 abbrev pub is_run_limit : ℕ → Bool
 is_run_limit limit = nat_le 1 limit && nat_le limit MAX_EVENTS
-
--- what there is to say of a list of bytes
-pub data Run : Type 0 where
-  -- it is the text of no program: its first line at fault, with the least cause
-  NoProgram : (fault : TextFault) → Run
-  -- it is the text of this program, and this was recorded of a run of it, with this trace
-  Ran : (program : ProgramState) (recording : RecordingState) (trace : TraceState) → Run
 
 -- a script for each goroutine, of which nothing was asked
 abbrev pub scripts_of : ProgramState → List ScriptState
@@ -44,21 +37,34 @@ pub record IsRefusedRun (limit : ℕ) (picks : Option (List ℕ)) (program : Pro
   pub opens : IsOpening program.decls limit (scripts_of program) hub
   pub refused : IfSome picks (λ list. IsTurnedAway Asks list hub ⊎ IsUncertified list program hub)
 
--- the trace is the recording's, and has a text
-pub record IsTraceOf (r : RecordingState) (trace : TraceState) : Type 0 where
-  pub decls : trace.decls ≡ r.decls
-  pub events : trace.events ≡ r.events
-  pub has_text : HasText trace
+-- the recording's trace
+abbrev pub trace_of : RecordingState → TraceState
+trace_of r = record { decls = r.decls; events = r.events; spare = 0 }
 
--- the finding is right for the bytes
-abbrev pub IsRun : ℕ → Option (List ℕ) → List ℕ → Run → Type 0
-IsRun limit picks bytes (NoProgram fault) = text_fault bytes ≡ Some fault
-IsRun limit picks bytes (Ran program r trace) = IsTextOf program bytes × IsRunOf limit picks program r × IsTraceOf r trace
+-- it is a recording of a run of the program, and its trace has a text
+pub record HasRun (limit : ℕ) (picks : Option (List ℕ)) (r : RecordingState) (program : ProgramState) : Type 0 where
+  pub run : IsRunOf limit picks program r
+  pub has_text : HasText (trace_of r)
 
--- what is printed: the trace
-abbrev pub run_text : Run → List ℕ
-run_text (NoProgram fault) = fault_line fault
-run_text (Ran program r trace) = text trace
+-- the bytes are the text of a program of which this holds
+pub record IsProgramWhere (Holds : ProgramState → Type 0) (bytes : List ℕ) : Type 0 where
+  pub program : ProgramState
+  pub text_is : IsTextOf program bytes
+  pub holds : Holds program
+
+-- the reply is right for the bytes
+abbrev pub IsRun : ℕ → Option (List ℕ) → List ℕ → Reply RecordingState → Type 0
+IsRun limit picks bytes (Reply.Faulty fault) = text_fault bytes ≡ Some fault
+IsRun limit picks bytes (Reply.Found r) = IsProgramWhere (HasRun limit picks r) bytes
+IsRun limit picks bytes _ = ⊥
+
+-- the bytes are the text of a program of whose run there is no recording
+abbrev pub IsUnrecorded : ℕ → Option (List ℕ) → List ℕ → Type 0
+IsUnrecorded limit picks = IsProgramWhere (IsRefusedRun limit picks)
+
+-- what is printed of a recording: its trace
+abbrev pub run_text : RecordingState → List ℕ
+run_text r = text (trace_of r)
 
 -- the status of an end
 abbrev pub status_of_end : End → ℕ
@@ -68,13 +74,12 @@ status_of_end End.Deadlock = status.DEADLOCK
 status_of_end End.Limit = status.LIMIT
 status_of_end (End.Bad g) = status.BAD_REQUEST
 
--- the status
-abbrev pub run_status : Run → ℕ
-run_status (NoProgram fault) = status.TEXT_FAULT
-run_status (Ran program r trace) = status_of_end r.end
+-- the status of a recording
+abbrev pub run_status : RecordingState → ℕ
+run_status r = status_of_end r.end
 
--- the bytes are the text of a program of which this holds
-pub record IsProgramWhere (Holds : ProgramState → Type 0) (bytes : List ℕ) : Type 0 where
-  pub program : ProgramState
-  pub text_is : IsTextOf program bytes
-  pub holds : Holds program
+-- a program was run, with at most so many events, by these picks or without any by workers
+abbrev pub Runs : {R W : Type 0} → ℕ → Option (List ℕ) → (R → Option (List ℕ)) → (W → Option (List ℕ)) → Source R → Source R → Sink W → Sink W → ℕ → Type 0
+Runs limit picks remaining contents source source_now sink sink_now answer =
+    Answers program_causes (IsRun limit picks) (reply_text run_text) (reply_status run_status) (IsUnrecorded limit picks)
+    remaining contents source source_now sink sink_now answer

@@ -1,14 +1,14 @@
 -- A trace that is judged while it is read: its events are handed on to a judge, and forgotten.
 use Rattle.std.specs.Prelude.{◌≡◌, ℕ, true, List, [], ◌++◌, Option, Some, None, IsSomeAnd}
 use Rattle.race_records.specs.{declared.event.Event.Event, Declarations.Declaration, Events.TraceState}
-use Rattle.race_verdict.specs.{declared.notes.NotedVerdict.NotedVerdict, Notes.{verdict_noted, IsNotedOf}}
+use Rattle.race_verdict.specs.{declared.report.Report.Report, Notes.{verdict_noted, IsNotedOf}}
 use Rattle.race_verdict.specs.Traces.{HasVerdict}
 use Rattle.race_shards.specs.{Judging.JudgeState, Limits.is_block}
 use Rattle.race_text.specs.{declared.stream.EventStream.EventStream, Fault.text_fault, Text.IsTextOf}
 use Rattle.race_text.specs.Stream.{Known, StandsFor, StandsWith, decls_of, events_of, trace_with}
-use Rattle.race_report.specs.{Noted.report_noted, Report.fault_line}
+use Rattle.race_report.specs.Noted.{report_noted}
 use Rattle.race_tool.specs.declared.{handed.Handed.Handed, intake.JudgedStream.JudgedStream}
-use Rattle.race_tool.specs.declared.stream_found.Found.{Found}
+use Rattle.race_tool.specs.declared.{reply.Reply.Reply, stream_found.Noted.Noted}
 use Rattle.race_shards.specs.Judging as judging
 use Rattle.race_tool.specs.declared.status.TheConstants as status
 
@@ -57,33 +57,32 @@ pub record IsReadText {A : Type 0} (j : JudgedStream A) (bytes : List ℕ) : Typ
   pub text : IsTextOf (trace_with past j.stream) bytes
 
 -- the verdict on the trace, and what is noted with it is of its events
-pub record IsNotedVerdict {A : Type 0} (trace : TraceState) (verdict : NotedVerdict A) : Type 0 where
+pub record IsReport {A : Type 0} (trace : TraceState) (verdict : Report A) : Type 0 where
   pub right : HasVerdict trace (verdict_noted verdict)
   pub notes : IsNotedOf trace.events verdict
 
 -- the bytes are the text of a trace with the declarations that were read, and with this verdict
-pub record IsJudgedText {A : Type 0} (stream : EventStream A) (verdict : NotedVerdict A) (bytes : List ℕ) : Type 0 where
+pub record IsJudgedText {A : Type 0} (stream : EventStream A) (verdict : Report A) (bytes : List ℕ) : Type 0 where
   pub trace : TraceState
   pub text : IsTextOf trace bytes
   pub decls : trace.decls ≡ decls_of stream
-  pub noted : IsNotedVerdict trace verdict
+  pub noted : IsReport trace verdict
 
--- what was found is right for the bytes
-abbrev pub IsFoundOf : {A : Type 0} → List ℕ → Found A → Type 0
-IsFoundOf bytes (Found.Faulty fault) = text_fault bytes ≡ Some fault
-IsFoundOf bytes (Found.Judged stream verdict) = IsJudgedText stream verdict bytes
+-- the reply is right for the bytes
+abbrev pub IsFoundOf : {A : Type 0} → List ℕ → Reply (Noted A) → Type 0
+IsFoundOf bytes (Reply.Faulty fault) = text_fault bytes ≡ Some fault
+IsFoundOf bytes (Reply.Found noted) = IsJudgedText noted.stream noted.verdict bytes
+IsFoundOf bytes _ = ⊥
 
 -- what is printed of what was found
-abbrev pub found_text : {A : Type 0} → Found A → List ℕ
-found_text (Found.Faulty fault) = fault_line fault
-found_text (Found.Judged stream verdict) = report_noted (decls_of stream) verdict
+abbrev pub found_text : {A : Type 0} → Noted A → List ℕ
+found_text noted = report_noted (decls_of noted.stream) noted.verdict
 
 -- and its status
-abbrev pub status_noted : {A : Type 0} → NotedVerdict A → ℕ
-status_noted (NotedVerdict.Illegal illegal) = status.ILLEGAL
-status_noted (NotedVerdict.Clean events accesses) = status.CLEAN
-status_noted (NotedVerdict.Races races) = status.RACES
+abbrev pub status_noted : {A : Type 0} → Report A → ℕ
+status_noted (Report.Illegal illegal) = status.ILLEGAL
+status_noted (Report.Clean events accesses) = status.CLEAN
+status_noted (Report.Races races) = status.RACES
 
-abbrev pub found_status : {A : Type 0} → Found A → ℕ
-found_status (Found.Faulty fault) = status.TEXT_FAULT
-found_status (Found.Judged stream verdict) = status_noted verdict
+abbrev pub found_status : {A : Type 0} → Noted A → ℕ
+found_status noted = status_noted noted.verdict

@@ -1,20 +1,24 @@
 //! The engine of `gorace check`: a trace's text in, its report out.
 ghost use Rattle.std.specs.Prelude.{◌≡◌, true, false};
-ghost use Rattle.race_text.specs.Fault.{trace_causes};
-ghost use Rattle.race_tool.specs.{Engines.{Checks, Never}, Outcome.{are_in_limits, Answers}};
-ghost use Rattle.race_tool.specs.Streams as spec;
+ghost use Rattle.race_text.specs.{Fault.trace_causes, Text.IsTextOf};
+ghost use Rattle.race_tool.specs.{Finding.Checks, Outcome.{are_in_limits, Answers, Never, Replies}};
+ghost use Rattle.race_tool.specs.{Reply.{reply_text, reply_status}, Streams.{IsFoundOf, found_text, found_status}};
+ghost use Rattle.race_tool.specs.Findings as spec;
 ghost use Rattle.race_tool.specs.declared.status.TheConstants as status;
 
-use crate::engine::{Engine, answer, status_of_fault};
-use crate::finding::{Finding, find};
+use crate::engine::{Engine, Unanswered, answer, status_of_fault};
 use crate::handed::Judging;
+use crate::input::read_text;
 use crate::intake::read_judged;
-use crate::printing::write_finding;
+use crate::judged::judge_plainly;
+use crate::reply::{Reply, Shown};
 use crate::status;
-use crate::stream_found::find_judged;
-use race_records::{Sink, Source, WriteFault};
+use crate::stream_found::{Noted, find_judged};
+use race_records::{Sink, Source, Trace, WriteFault};
+use race_report::write_report;
 use race_shards::{MAX_BLOCK, MAX_SHARDS};
 use race_text::Reader;
+use race_verdict::Verdict;
 use std::alloc::Allocator;
 use std::io::{Read, Write};
 use std::sync::Wait;
@@ -97,8 +101,13 @@ pub fn run_check<T: Threads + Wait + Sync, R: Read, W: Write, A: Allocator + Cop
         return status::USAGE;
     }
     if options.plain {
-        let engine = Plain { alloc };
-        return answer(&engine, |text| find(alloc, text), alloc, source, sink);
+        let plain = Plain { alloc };
+        let read = |source: &mut Source<R>| read_text(
+            alloc,
+            source,
+            Reader::keyed(alloc, source.key()),
+        );
+        return answer(&plain, read, |trace| plain.find(trace), source, sink);
     }
     check_as_read(rt, alloc, source, sink, options)
 }
@@ -112,18 +121,19 @@ fn check_as_read<T: Threads + Wait + Sync, R: Read, W: Write, A: Allocator + Cop
     options: &CheckOptions,
 ) -> u8
     requires { are_in_limits options.now ≡ true }
-    ensures { Answers trace_causes (spec.IsFoundOf {A = A}) spec.found_text spec.found_status Never
+    ensures { Answers trace_causes (IsFoundOf {A = A}) (reply_text found_text) (reply_status found_status) Never
         R.remaining W.contents source.old source.new sink.old sink.new result }
 {
     let judging = options.judging();
     match read_judged(rt, alloc, source, judging) {
-        Ok(text) => match find_judged(text) {
-            Ok(found) => match found.write(sink) {
-                Ok(()) => found.status(),
-                Err(_) => status::DEVICE,
-            },
+        Ok(Ok(whole)) => match find_judged(whole) {
+            Ok(noted) => Reply::Found(noted).send(sink),
             Err(_) => status::REFUSED,
         },
+        Ok(Err(fault)) => {
+            let reply: Reply<Noted<A>> = Reply::Faulty(fault);
+            reply.send(sink)
+        }
         Err(fault) => status_of_fault(fault),
     }
 }
@@ -134,30 +144,58 @@ struct Plain<A: Allocator + Copy> {
     alloc: A,
 }
 
+impl<A: Allocator + Copy> Plain<A> {
+    // What there is to reply to a trace.
+    fn find(&self, trace: Trace<A>) -> Result<Reply<Judged<A>>, Unanswered>
+        ensures { Replies IsTextOf spec.IsJudged Never trace result }
+    {
+        match judge_plainly(self.alloc, &trace)? {
+            Some(verdict) => Ok(Reply::Found(Judged { trace, verdict })),
+            None => Ok(Reply::TooLong(trace.len())),
+        }
+    }
+}
+
 impl<A: Allocator + Copy> Engine for Plain<A> {
-    ghost use Rattle.race_tool.specs.{Finding.{IsFinding, report_of, status_of}, Findings.finding_of};
+    ghost use Rattle.race_tool.specs.{Findings.IsJudged, Outcome.Never};
 
     type Reader = Reader<A>;
 
-    type Found = Finding<A>;
+    type Found = Judged<A>;
 
-    ghost is_right = { λ _ bytes found. IsFinding true bytes (finding_of found) };
+    ghost is_right = { λ _. IsJudged };
 
     ghost is_unrecorded = { λ _. Never };
+}
 
-    ghost text_of = { λ found. report_of (finding_of found) };
+/// A trace with its verdict.
+#[derive(Drop)]
+pub(crate) struct Judged<A: Allocator> {
+    /// The trace.
+    pub(crate) trace: Trace<A>,
+    /// The verdict on it.
+    pub(crate) verdict: Verdict<A>,
+}
 
-    ghost status_for = { λ found. status_of (finding_of found) };
+impl<A: Allocator> Shown for Judged<A> {
+    ghost use Rattle.race_report.specs.Printable.{RacesAreOf};
+    ghost use Rattle.race_tool.specs.Findings.{judged_text, judged_status};
 
-    fn reader(&self) -> Reader<A> {
-        Reader::new(self.alloc)
+    ghost is_printable = { λ found. RacesAreOf found.trace found.verdict };
+
+    ghost text = { judged_text };
+
+    ghost status_for = { judged_status };
+
+    fn write<W: Write>(&self, sink: &mut Sink<W>) -> Result<(), WriteFault> {
+        write_report(&self.trace, &self.verdict, sink)
     }
 
-    fn write<W: Write>(&self, found: &Finding<A>, sink: &mut Sink<W>) -> Result<(), WriteFault> {
-        write_finding(found, sink)
-    }
-
-    fn status(&self, found: &Finding<A>) -> u8 {
-        found.status()
+    fn status(&self) -> u8 {
+        match &self.verdict {
+            Verdict::Illegal(_) => status::ILLEGAL,
+            Verdict::Clean => status::CLEAN,
+            Verdict::Races(_) => status::RACES,
+        }
     }
 }

@@ -51,7 +51,7 @@ pub(crate) fn read_judged<T: Threads + Wait + Sync, R: Read, A: Allocator + Copy
         return Err(ReadFault::OutOfMemory);
     };
     let mut handed = Handed::new(alloc, judging);
-    let first = EventStream::new(alloc);
+    let first = EventStream::keyed(alloc, source.key());
     let reader = Fed::new(alloc, first);
     let mut intake = Intake {
         block,

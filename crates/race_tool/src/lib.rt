@@ -2,35 +2,30 @@
 #![tactic(auto)]
 
 mod check;
-mod draw_engine;
-mod draw_found;
-mod edges_engine;
-mod edges_found;
+mod draw;
+mod edges;
 mod engine;
 pub mod examples;
-mod finding;
 mod handed;
 mod input;
 mod intake;
+mod judged;
 pub mod laws;
-mod no_race;
 mod printing;
-mod race_engine;
-mod race_found;
+mod race;
 mod race_printing;
 mod recorded;
-mod run_engine;
-mod run_found;
+mod reply;
+mod run;
 pub mod status;
 mod stream_found;
-mod witness_engine;
-mod witness_found;
+mod witness;
 
 pub use check::{CheckOptions, run_check};
-pub use draw_engine::run_draw;
-pub use edges_engine::run_edges;
-pub use race_engine::run_race;
+pub use draw::run_draw;
+pub use edges::run_edges;
+pub use race::run_race;
 pub use race_record::MAX_WORKERS;
 pub use race_shards::{MAX_BLOCK, MAX_SHARDS};
-pub use run_engine::{RunOptions, run_run};
-pub use witness_engine::run_witness;
+pub use run::{RunOptions, run_run};
+pub use witness::run_witness;

@@ -1,29 +1,16 @@
-//! What an engine prints: a report, or that there are too many events.
+//! The lines that an engine prints where nothing is found.
+ghost use Rattle.race_records.specs.Page.{Printing};
+ghost use Rattle.race_legal.specs.Rules.{number_of};
 ghost use Rattle.race_text.specs.Output.{Writes};
-ghost use Rattle.race_tool.specs.{Finding.report_of, Findings.{finding_of, IsPrintable}, Report.too_long_line};
+ghost use Rattle.race_report.specs.Report.{illegal_line};
+ghost use Rattle.race_tool.specs.Report.{too_long_line, no_race_line};
 
-use crate::finding::Finding;
+use race_legal::Illegal;
 use race_records::{Page, Sink, WriteFault};
-use race_report::{print_count, write_report, write_text_fault};
-use std::alloc::Allocator;
+use race_report::{print_count, print_illegal};
 use std::io::Write;
 
-/// Writes what there is to say.
-pub(crate) fn write_finding<W: Write, A: Allocator>(
-    finding: &Finding<A>,
-    sink: &mut Sink<W>,
-) -> Result<(), WriteFault>
-    requires { IsPrintable finding.now }
-    ensures { Writes W.contents result sink.old sink.new (report_of (finding_of finding.now)) }
-{
-    match finding {
-        Finding::Faulty(fault) => write_text_fault(fault, sink),
-        Finding::TooLong(events) => write_too_long(*events, sink),
-        Finding::Judged(trace, verdict) => write_report(trace, verdict, sink),
-    }
-}
-
-// Writes that there are more events than are judged.
+/// Writes that there are more events than are taken.
 pub(crate) fn write_too_long<W: Write>(events: usize, sink: &mut Sink<W>) -> Result<(), WriteFault>
     ensures { Writes W.contents result sink.old sink.new (too_long_line events) }
 {
@@ -32,4 +19,37 @@ pub(crate) fn write_too_long<W: Write>(events: usize, sink: &mut Sink<W>) -> Res
         Ok(()) => page.flush(sink),
         Err(fault) => Err(fault),
     }
+}
+
+/// Writes the first event that breaks a rule, with its rule.
+pub(crate) fn write_illegal<W: Write>(
+    illegal: Illegal,
+    sink: &mut Sink<W>,
+) -> Result<(), WriteFault>
+    ensures { Writes W.contents result sink.old sink.new (illegal_line illegal.at (number_of illegal.rule)) }
+{
+    let mut page = Page::new();
+    match print_illegal(&mut page, sink, illegal) {
+        Ok(()) => page.flush(sink),
+        Err(fault) => Err(fault),
+    }
+}
+
+/// Writes that there is no such race.
+pub(crate) fn write_no_race<W: Write>(sink: &mut Sink<W>) -> Result<(), WriteFault>
+    ensures { Writes W.contents result sink.old sink.new no_race_line }
+{
+    let mut page = Page::new();
+    match print_no_race(&mut page, sink) {
+        Ok(()) => page.flush(sink),
+        Err(fault) => Err(fault),
+    }
+}
+
+#[tactic(auto, unfolding(crate::specs::Report::no_race_line))]
+fn print_no_race<W: Write>(page: &mut Page, sink: &mut Sink<W>) -> Result<(), WriteFault>
+    ensures { Printing W.contents result sink.old sink.new page.old page.new no_race_line }
+{
+    let parts = [b"no such race".as_slice(), b"\n".as_slice()];
+    page.put_all(sink, &parts)
 }

@@ -2,11 +2,11 @@
 ghost use Rattle.std.specs.Prelude.{◌≡◌, ◌↔◌, length, Err, IfOk, IfErr, IfSome};
 ghost use Rattle.race_script.specs.Certificate.{IsCertified};
 ghost use Rattle.race_record.specs.{Recorded.IsRecordingOf, Serial.{IsSerial, IsTurnedAway}};
-ghost use Rattle.race_tool.specs.{Options.picks_asked, Recorded.trace_of, Run.{scripts_of, IsRunOf, IsRefusedRun}};
-ghost use Rattle.race_tool.specs.Run.{IsTraceOf};
+ghost use Rattle.race_text.specs.Text.{HasText};
+ghost use Rattle.race_tool.specs.{Options.picks_asked, Run.{scripts_of, trace_of, HasRun, IsRefusedRun}};
 
-use crate::engine::NoFinding;
-use crate::run_engine::RunOptions;
+use crate::engine::Unanswered;
+use crate::run::RunOptions;
 use race_hub::{Hub, Recording, Routine};
 use race_record::{RecordFault, record, record_serial};
 use race_records::Kind;
@@ -21,26 +21,21 @@ pub(crate) fn record_program<T: Threads + Wait + Sync, A: Allocator + Copy + Sen
     alloc: A,
     program: &Program<A>,
     options: &RunOptions<A>,
-) -> Result<Recording<A>, NoFinding>
-    ensures ok { IfOk result (λ recording.
-        IsRunOf options.now.limit (picks_asked options.now) program.now recording) }
-    ensures trace { IfOk result (λ recording. IsTraceOf recording (trace_of recording)) }
-    ensures unrecorded { result ≡ Err NoFinding.Unrecorded
+) -> Result<Recording<A>, Unanswered>
+    ensures run { IfOk result (λ recording.
+        HasRun options.now.limit (picks_asked options.now) recording program.now) }
+    ensures unrecorded { result ≡ Err Unanswered.Unrecorded
         → IsRefusedRun options.now.limit (picks_asked options.now) program.now }
 {
-    let Ok(decls) = program.decls().copy() else {
-        return Err(NoFinding::Refused);
-    };
-    let Ok(scripts) = scripts(alloc, program) else {
-        return Err(NoFinding::Refused);
-    };
+    let decls = program.decls().copy()?;
+    let scripts = scripts(alloc, program)?;
     match Hub::new(alloc, decls, options.limit, scripts) {
         Ok(hub) => match recorded(rt, hub, options) {
             Ok(recording) => certified(program, recording),
             Err(fault) => Err(no_finding(fault)),
         },
         // There is a script for each goroutine, and the engines have tested the limit.
-        Err(_) => Err(NoFinding::Refused),
+        Err(_) => Err(Unanswered::Refused),
     }
 }
 
@@ -64,15 +59,15 @@ fn recorded<T: Threads + Wait + Sync, R: Routine, A: Allocator + Copy + Send>(
 }
 
 // What the fault comes to for an engine.
-fn no_finding(fault: RecordFault) -> NoFinding
-    ensures { (result ≡ NoFinding.Unrecorded) ↔ (fault ≡ RecordFault.Mismatch) }
+fn no_finding(fault: RecordFault) -> Unanswered
+    ensures { (result ≡ Unanswered.Unrecorded) ↔ (fault ≡ RecordFault.Mismatch) }
 {
     match fault {
-        RecordFault::Mismatch => NoFinding::Unrecorded,
-        RecordFault::OutOfMemory => NoFinding::Refused,
-        RecordFault::NoThread => NoFinding::Refused,
+        RecordFault::Mismatch => Unanswered::Unrecorded,
+        RecordFault::OutOfMemory => Unanswered::Refused,
+        RecordFault::NoThread => Unanswered::Refused,
         // The engines have tested the number of workers.
-        RecordFault::BadWorkers => NoFinding::Refused,
+        RecordFault::BadWorkers => Unanswered::Refused,
     }
 }
 
@@ -80,11 +75,11 @@ fn no_finding(fault: RecordFault) -> NoFinding
 fn certified<A: Allocator>(
     program: &Program<A>,
     recording: Recording<A>,
-) -> Result<Recording<A>, NoFinding>
+) -> Result<Recording<A>, Unanswered>
     ensures same { IfOk result (λ r. r ≡ recording) }
     ensures run { IfOk result (λ r. IsCertified program.now r) }
-    ensures trace { IfOk result (λ r. IsTraceOf r (trace_of r)) }
-    ensures unrecorded { IfErr result (λ why. why ≡ NoFinding.Unrecorded) }
+    ensures text { IfOk result (λ r. HasText (trace_of r)) }
+    ensures unrecorded { IfErr result (λ why. why ≡ Unanswered.Unrecorded) }
     ensures none { IfErr result (λ _. IsCertified program.now recording → ⊥) }
 {
     let trace = recording.trace();
@@ -92,7 +87,7 @@ fn certified<A: Allocator>(
     let (_decls, _events) = (trace.decls(), trace.events());
     match certify(program, &recording) {
         Ok(()) => Ok(recording),
-        Err(_) => Err(NoFinding::Unrecorded),
+        Err(_) => Err(Unanswered::Unrecorded),
     }
 }
 

@@ -1,65 +1,60 @@
-//! What there is to say of a list of bytes of which each event was judged as it was read.
-ghost use Rattle.std.specs.Prelude.{◌≡◌, ℕ, List, IfOk};
-ghost use Rattle.race_text.specs.{Fault.trace_causes, Output.Writes};
-ghost use Rattle.race_tool.specs.Input.{IsReadBy};
+//! What there is to say of a trace of which each event was judged as it was read.
+ghost use Rattle.std.specs.Prelude.{ℕ, List, IfOk};
 ghost use Rattle.race_tool.specs.Streams as spec;
 
 use crate::intake::JudgedStream;
+use crate::reply::Shown;
 use crate::status;
 use race_records::{Sink, WriteFault};
-use race_report::{write_noted_report, write_text_fault};
-use race_text::{EventStream, TextFault};
-use race_verdict::NotedVerdict;
+use race_report::write_noted_report;
+use race_text::EventStream;
+use race_verdict::Report;
 use std::alloc::{AllocError, Allocator};
 use std::io::Write;
 
-/// What there is to say of a list of bytes.
-#[derive(Drop)]
-pub(crate) enum Found<A: Allocator> {
-    /// It is no trace: its first line at fault.
-    Faulty(TextFault),
-    /// It is the text of a trace with this verdict, of which the events were forgotten.
-    Judged(EventStream<A>, NotedVerdict<A>),
-}
-
-/// What there is to say of what was read and judged.
+/// The verdict on what was read and judged.
 pub(crate) fn find_judged<A: Allocator + Copy>(
-    text: Result<JudgedStream<A>, TextFault>,
-) -> Result<Found<A>, AllocError>
-    ensures { IfOk result (λ found. (bytes : List ℕ) → IsReadBy spec.IsReadText trace_causes bytes text → spec.IsFoundOf bytes found) }
+    whole: JudgedStream<A>,
+) -> Result<Noted<A>, AllocError>
+    ensures { IfOk result (λ noted. (bytes : List ℕ) → spec.IsReadText whole bytes
+        → spec.IsJudgedText noted.stream noted.verdict bytes) }
 {
-    match text {
-        Ok(whole) => match whole.judge.finish_noted() {
-            Ok(verdict) => Ok(Found::Judged(whole.stream, verdict)),
-            Err(_) => Err(AllocError),
-        },
-        Err(fault) => Ok(Found::Faulty(fault)),
+    let JudgedStream { stream, judge } = whole;
+    match judge.finish_noted() {
+        Ok(verdict) => Ok(Noted { stream, verdict }),
+        Err(_) => Err(AllocError),
     }
 }
 
-impl<A: Allocator + Copy> Found<A> {
-    /// Writes the report, or the fault.
-    pub(crate) fn write<W: Write>(&self, sink: &mut Sink<W>) -> Result<(), WriteFault>
-        requires { (bytes : List ℕ) × spec.IsFoundOf bytes self.now }
-        ensures { Writes W.contents result sink.old sink.new (spec.found_text self.now) }
-    {
-        match self {
-            Found::Faulty(fault) => write_text_fault(fault, sink),
-            Found::Judged(stream, verdict) => write_noted_report(stream.decls(), verdict, sink),
-        }
+/// The verdict on a trace of which the events were forgotten.
+#[derive(Drop)]
+pub(crate) struct Noted<A: Allocator> {
+    /// What is left of the trace.
+    pub(crate) stream: EventStream<A>,
+    /// The verdict, with what its report tells of events.
+    pub(crate) verdict: Report<A>,
+}
+
+impl<A: Allocator + Copy> Shown for Noted<A> {
+    ghost use Rattle.race_report.specs.Printable.{AreNamed};
+    ghost use Rattle.race_text.specs.Stream.{decls_of};
+    ghost use Rattle.race_tool.specs.Streams.{found_text, found_status};
+
+    ghost is_printable = { λ found. AreNamed (decls_of found.stream) found.verdict };
+
+    ghost text = { found_text };
+
+    ghost status_for = { found_status };
+
+    fn write<W: Write>(&self, sink: &mut Sink<W>) -> Result<(), WriteFault> {
+        write_noted_report(self.stream.decls(), &self.verdict, sink)
     }
 
-    /// The status.
-    pub(crate) fn status(&self) -> u8
-        ensures { result ≡ spec.found_status self.now }
-    {
-        match self {
-            Found::Faulty(_) => status::TEXT_FAULT,
-            Found::Judged(_, verdict) => match verdict {
-                NotedVerdict::Illegal(_) => status::ILLEGAL,
-                NotedVerdict::Clean { .. } => status::CLEAN,
-                NotedVerdict::Races(_) => status::RACES,
-            },
+    fn status(&self) -> u8 {
+        match &self.verdict {
+            Report::Illegal(_) => status::ILLEGAL,
+            Report::Clean { .. } => status::CLEAN,
+            Report::Races(_) => status::RACES,
         }
     }
 }

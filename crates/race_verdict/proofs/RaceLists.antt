@@ -5,7 +5,7 @@ use Rattle.std.proofs.lemmas.Option.{slice_get-map, slice_get_within, slice_get-
 use Rattle.std.specs.Option.{option_map}
 use Rattle.race_records.specs.declared.event.Event.{Event}
 use Rattle.race_model.specs.{Race.{IsRace, IsDataRaceFree, IsReportedRace}, Verdict.AreReportedRaces}
-use Rattle.race_verdict.specs.{declared.{notes.NotedRace.NotedRace, races.Race.Race}, Notes.race_noted, Races.race_of}
+use Rattle.race_verdict.specs.{declared.{report.ReportedRace.ReportedRace, races.Race.Race}, Notes.race_noted, Races.race_of}
 use Rattle.race_verdict.specs.Races.{IsFound, AreFound, races_of, AreRaces}
 use Rattle.race_model.specs.Verdict as model
 
@@ -114,12 +114,12 @@ listed_some [] some = λ e. some refl
 listed_some (r ∷ races) some = λ e. cc
 
 -- the same of races that are noted
-pub noted_none : (caps : ℕ → ℕ) (events : List Event) (races : List NotedRace) → AreReportedRaces caps events (map race_noted races)
+pub noted_none : (caps : ℕ → ℕ) (events : List Event) (races : List ReportedRace) → AreReportedRaces caps events (map race_noted races)
     → (length races == 0) ≡ true → IsDataRaceFree caps events
 noted_none caps events [] are none = free_from_empty caps events are
 noted_none caps events (r ∷ races) are none =
     let empty : length (r ∷ races) ≡ 0 = eqb-true (length (r ∷ races)) 0 none in absurd (omega (arith, empty))
 
-pub noted_some : (races : List NotedRace) → (length races == 0) ≡ false → map race_noted races ≢ []
+pub noted_some : (races : List ReportedRace) → (length races == 0) ≡ false → map race_noted races ≢ []
 noted_some [] some = cc
 noted_some (r ∷ races) some = λ e. cc

@@ -4,7 +4,7 @@ use Rattle.std.proofs.{Common.{arith, IsTrue, eqb-true}, lemmas.Bool.Decides.nat
 use Rattle.std.proofs.{lemmas.Option.{slice_get_within, get_or_from_slice_get}, Math.Bool.or-false}
 use Rattle.race_records.specs.declared.event.{Event.Event, Op.{Op, TheVariants.{Go, Read, Write, Meet}}}
 use Rattle.race_records.specs.{declared.kind.Kind.Kind, Declarations.{count_of, counts_of}}
-use Rattle.race_records.specs.{Events.{TraceState, IsTrace, fits}, Parts.op_is_in_range}
+use Rattle.race_records.specs.{Events.{TraceState, IsTrace, fits}, Operands.op_is_in_range}
 use Rattle.race_legal.{specs.ReplayState.IsInRange, proofs.RangeLemmas.range_from_fits}
 use Rattle.race_model.specs.{Events.{partner, gives, accesses}, Race.{IsAccessOf, IsRace}}
 use Rattle.race_verdict.specs.Accesses.{accessed}

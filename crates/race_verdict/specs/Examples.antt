@@ -1,7 +1,7 @@
 -- A small list of events, and what is noted of it: src/examples.rt proves it.
 use Rattle.std.specs.Prelude.{ℕ, Bool, List, [], ◌∷◌, None}
 use Rattle.race_records.specs.declared.event.{Event.Event, Op.{Op, TheVariants.{Go, Read, Write}}}
-use Rattle.race_verdict.specs.declared.notes.Noted.{Noted}
+use Rattle.race_verdict.specs.declared.report.ReportedAccess.{ReportedAccess}
 
 -- an event of goroutine g at a place
 abbrev pub does : ℕ → Op → ℕ → Event
@@ -12,5 +12,5 @@ abbrev pub write_and_read : List Event
 write_and_read = does 0 (Go 1) 0 ∷ does 1 (Write 0 7) 1 ∷ does 0 (Read 0 7) 2 ∷ []
 
 -- what would be printed of an access
-abbrev pub note : ℕ → ℕ → Bool → ℕ → Noted
+abbrev pub note : ℕ → ℕ → Bool → ℕ → ReportedAccess
 note at who write place = record { at = at; who = who; write = write; place = place }

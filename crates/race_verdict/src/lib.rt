@@ -2,10 +2,10 @@
 #![tactic(auto)]
 
 pub mod examples;
-mod notes;
 mod races;
+mod report;
 mod verdict;
 
-pub use notes::{Noted, NotedRace, NotedVerdict};
 pub use races::{Race, RaceList};
+pub use report::{Report, ReportedAccess, ReportedRace};
 pub use verdict::Verdict;

@@ -1,4 +1,4 @@
-//! Boxes that ask what a table says, and hubs of them.
+//! Routines that ask what a table says, and hubs of them.
 
 use race_hub::{Answer, Ask, Hub, Offer, Offers, Request, Routine};
 use race_records::{Decls, Object};
@@ -72,7 +72,7 @@ pub(crate) struct Asks {
     asked: usize,
 }
 
-pub(crate) fn box_of(asks: &'static [Plain]) -> Asks {
+pub(crate) fn routine_of(asks: &'static [Plain]) -> Asks {
     Asks { asks, asked: 0 }
 }
 
@@ -106,12 +106,16 @@ pub(crate) fn declared(alloc: Global, is_version2: bool, object: Object) -> Resu
     Ok(decls)
 }
 
-/// A box for main and one for w.
-pub(crate) fn boxes_of<R: Routine>(alloc: Global, main: R, other: R) -> Result<Vec<R>, AllocError> {
-    let mut boxes = Vec::new(alloc);
-    boxes.push(main)?;
-    boxes.push(other)?;
-    Ok(boxes)
+/// A routine for main and one for w.
+pub(crate) fn routines_of<R: Routine>(
+    alloc: Global,
+    main: R,
+    other: R,
+) -> Result<Vec<R>, AllocError> {
+    let mut routines = Vec::new(alloc);
+    routines.push(main)?;
+    routines.push(other)?;
+    Ok(routines)
 }
 
 /// A hub of version 1 with this object, of main and w that ask these.
@@ -122,6 +126,6 @@ pub(crate) fn hub_of(
     main: &'static [Plain],
     other: &'static [Plain],
 ) -> Result<Hub<Asks>, Fail> {
-    let boxes = boxes_of(alloc, box_of(main), box_of(other))?;
-    Ok(Hub::new(alloc, declared(alloc, false, object)?, limit, boxes)?)
+    let routines = routines_of(alloc, routine_of(main), routine_of(other))?;
+    Ok(Hub::new(alloc, declared(alloc, false, object)?, limit, routines)?)
 }

@@ -1,7 +1,7 @@
 //! What race_hub does that no contract says.
 mod board;
-mod boxes;
 mod hubs;
+mod routines;
 mod search;
 mod selects;
 mod tries;

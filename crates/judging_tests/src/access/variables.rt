@@ -2,7 +2,7 @@ ghost use Rattle.std.specs.Prelude.{◌<◌};
 
 use race_access::VarState;
 use race_clock::{Clock, Stamp};
-use race_verdict::Noted;
+use race_verdict::ReportedAccess;
 use std::alloc::{AllocError, Global};
 use std::test::Fail;
 
@@ -135,11 +135,11 @@ fn touch(alloc: Global, state: &mut VarState, row: &Row) -> Result<(), AllocErro
 }
 
 // What is noted of the access of this index: it stands at 500 and its index.
-fn note_of(rows: &[Row], at: u32) -> Option<Noted> {
+fn note_of(rows: &[Row], at: u32) -> Option<ReportedAccess> {
     for row in rows {
         let (index, who, _, write, _) = *row;
         if index == at {
-            return Some(Noted {
+            return Some(ReportedAccess {
                 at,
                 who,
                 write,
@@ -150,7 +150,7 @@ fn note_of(rows: &[Row], at: u32) -> Option<Noted> {
     None
 }
 
-fn notes_of(rows: &[Row], race: Option<(u32, u32)>) -> Option<(Noted, Noted)> {
+fn notes_of(rows: &[Row], race: Option<(u32, u32)>) -> Option<(ReportedAccess, ReportedAccess)> {
     let (first, second) = race?;
     Some((note_of(rows, first)?, note_of(rows, second)?))
 }

@@ -17,7 +17,7 @@ struct Row {
     choices: &'static [(u32, u32)],
 }
 
-// The request at this place by its one way, with the partner of this number less 1, or with none.
+// The request at this place by its one branch, with the partner of this number less 1, or with none.
 fn choice(place: u32, partner: u32) -> Choice {
     Choice {
         place,

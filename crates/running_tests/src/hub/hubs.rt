@@ -1,6 +1,6 @@
 //! What a hub gives, step by step.
 
-use crate::asks::{Asks, Plain, box_of, boxes_of, declared, hub_of};
+use crate::asks::{Asks, Plain, declared, hub_of, routine_of, routines_of};
 use race_hub::{
     Answer, Ask, Boxed, End, Hub, HubFault, Job, Mismatch, Recording, Request, Routine, SubmitFault,
 };
@@ -316,22 +316,22 @@ fn read_in(asked: Option<&Request>) -> Option<u32> {
 // The first row that comes otherwise at limit 2, and which variables main and w ask to read then.
 fn limited<R: Routine>(
     alloc: Global,
-    boxes: Vec<R>,
+    routines: Vec<R>,
 ) -> Result<(Option<usize>, Option<u32>, Option<u32>), Fail> {
-    let mut hub = Hub::new(alloc, declared(alloc, false, Object::Var)?, 2, boxes)?;
+    let mut hub = Hub::new(alloc, declared(alloc, false, Object::Var)?, 2, routines)?;
     let wrong = played(&mut hub, &LIMIT)?;
     Ok((wrong, read_in(hub.waiting(0)), read_in(hub.waiting(1))))
 }
 
-// Whether all come so where the box of main is of another type than that of w.
+// Whether all come so where the routine of main is of another type than that of w.
 fn are_limited(alloc: Global) -> Result<bool, Fail> {
-    let main = Box::new(alloc, box_of(GO_AND_READ))?;
+    let main = Box::new(alloc, routine_of(GO_AND_READ))?;
     let other = Box::new(alloc, Writes { value: 5 })?;
-    let boxes = boxes_of(alloc, Boxed(main), Boxed(other))?;
-    Ok(limited(alloc, boxes)? == (None, Some(0), None))
+    let routines = routines_of(alloc, Boxed(main), Boxed(other))?;
+    Ok(limited(alloc, routines)? == (None, Some(0), None))
 }
 
-// A limit, how many boxes there are, and why no hub is made of main and w.
+// A limit, how many routines there are, and why no hub is made of main and w.
 static OPENINGS: [(u32, u32, Option<HubFault>); 4] = [
     (0, 1, Some(HubFault::WrongCount)),
     (0, 2, Some(HubFault::BadLimit)),
@@ -340,17 +340,17 @@ static OPENINGS: [(u32, u32, Option<HubFault>); 4] = [
 ];
 
 // So many that exit at once.
-fn boxes(alloc: Global, count: u32) -> Result<Vec<Asks>, AllocError> {
-    let mut boxes = Vec::new(alloc);
+fn routines(alloc: Global, count: u32) -> Result<Vec<Asks>, AllocError> {
+    let mut routines = Vec::new(alloc);
     for _ in 0..count {
-        boxes.push(box_of(&[]))?;
+        routines.push(routine_of(&[]))?;
     }
-    Ok(boxes)
+    Ok(routines)
 }
 
 fn fault(alloc: Global, limit: u32, count: u32) -> Result<Option<HubFault>, Fail> {
-    let boxes = boxes(alloc, count)?;
-    Ok(Hub::new(alloc, declared(alloc, false, Object::Var)?, limit, boxes).err())
+    let routines = routines(alloc, count)?;
+    Ok(Hub::new(alloc, declared(alloc, false, Object::Var)?, limit, routines).err())
 }
 
 #[test]

@@ -2,7 +2,7 @@ ghost use Rattle.std.specs.Prelude.{◌≤◌};
 
 use race_hub::{Board, Choice, pick_choice};
 
-// So many requests with one way each. Those at even places meet those at odd ones, or each goes on alone.
+// So many requests with one branch each. Those at even places meet those at odd ones, or each goes on alone.
 #[derive(Drop)]
 struct Crowd {
     waiting: u32,
@@ -15,7 +15,7 @@ impl Board for Crowd {
 
     ghost size = { λ c. c.waiting };
 
-    ghost ways_at = { λ _ _. 1 };
+    ghost branches_at = { λ _ _. 1 };
 
     ghost admitted = { λ c t. if c.pairs then ((t.place % 2 == 0) && (nat_lt 0 t.partner && (t.partner % 2 == 0))) else (t.partner == 0) };
 
@@ -23,11 +23,11 @@ impl Board for Crowd {
         self.waiting
     }
 
-    fn ways(&self, _place: u32) -> u32 {
+    fn branches(&self, _place: u32) -> u32 {
         1
     }
 
-    fn next_partner(&self, place: u32, _way: u32, from: u32) -> u32 {
+    fn next_partner(&self, place: u32, _branch: u32, from: u32) -> u32 {
         if self.pairs && place % 2 == 0 {
             from
         } else {

@@ -1,6 +1,6 @@
 //! What tries to lock make, and which of them a hub refuses.
 
-use crate::asks::{Asks, Plain, box_of, boxes_of, declared};
+use crate::asks::{Asks, Plain, declared, routine_of, routines_of};
 use crate::turns::{ask, go_on};
 use race_hub::{Answer, End, Hub};
 use race_records::{Object, Op};
@@ -59,9 +59,9 @@ fn hub_of(
     rw: bool,
     main: &'static [Plain],
 ) -> Result<Hub<Asks>, Fail> {
-    let boxes = boxes_of(alloc, box_of(main), box_of(&[]))?;
+    let routines = routines_of(alloc, routine_of(main), routine_of(&[]))?;
     let decls = declared(alloc, is_version2, Object::Lock(rw))?;
-    Ok(Hub::new(alloc, decls, 8, boxes)?)
+    Ok(Hub::new(alloc, decls, 8, routines)?)
 }
 
 fn last_made(hub: &Hub<Asks>) -> Option<Made> {

@@ -1,6 +1,6 @@
-//! Boxes that ask what can't be, in a hub, on one thread and on several.
+//! Routines that ask what can't be, in a hub, on one thread and on several.
 
-use crate::asks::{Asks, Plain, ask_of, box_of, boxes_of};
+use crate::asks::{Asks, Plain, ask_of, routine_of, routines_of};
 use crate::turns::{By, go_on, recorded};
 use race_hub::{Answer, End, Hub, Log, Recording, SubmitFault};
 use race_records::{Decls, Object, Op};
@@ -55,8 +55,8 @@ fn declared(alloc: Global, has_place: bool, is_version2: bool) -> Result<Decls, 
 
 fn hub_of(alloc: Global, row: &Row) -> Result<Hub<Asks>, Fail> {
     let &(asks, has_place, is_version2) = row;
-    let boxes = boxes_of(alloc, box_of(asks), box_of(&[]))?;
-    Ok(Hub::new(alloc, declared(alloc, has_place, is_version2)?, 9, boxes)?)
+    let routines = routines_of(alloc, routine_of(asks), routine_of(&[]))?;
+    Ok(Hub::new(alloc, declared(alloc, has_place, is_version2)?, 9, routines)?)
 }
 
 // Whether the last of these waits.

@@ -44,7 +44,7 @@ static ROWS: [Row; 10] = [
     (TWICE, 8, &[], End::Bad(0), (true, false)),
 ];
 
-// A box for each goroutine.
+// A routine for each goroutine.
 fn scripts(alloc: Global, program: &Program) -> Result<Vec<Script>, AllocError> {
     let mut scripts = Vec::new(alloc);
     for goroutine in 0..program.decls().count(Kind::Goroutine) {

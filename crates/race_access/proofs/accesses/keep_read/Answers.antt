@@ -18,7 +18,7 @@ returns-then-index-access-clause-ok c = grind (arith, elements) steps 2000000
 pub returns-then-len-capacity-clause-ok : goal.returns-then-len-capacity-clause-ok
 returns-then-len-capacity-clause-ok g c =
     let old = c.args.reads.now.items in
-    rw c.in_ok-insert.ensures.items (keeps_inserted old old _ c.args.access c.args.clock.now (drops_none old c.args.clock.now))
+    rw c.put_at.ensures (keeps_inserted old old _ c.args.access c.args.clock.now (drops_none old c.args.clock.now))
 
 -- where the goroutine's place isn't its own, it has none
 pub returns-then-len-capacity-clause-rising : goal.returns-then-len-capacity-clause-rising
@@ -33,7 +33,7 @@ returns-then-len-capacity-clause-rising g c =
           w.if-index-access.false (ap (λ (e : Access). e.who) at ∙ same)
       | else-place-len-via-else-place-len w ↦ let short = w.if-place-len.false in absurd (omega (arith, within, short, len))
     ]) in
-    rw c.in_ok-insert.ensures.items (insert_rises old c.place_of-place.result c.args.access c.requires place none)
+    rw c.put_at.ensures (insert_rises old c.place_of-place.result c.args.access c.requires place none)
 
 pub keep_first-requires-clause-first : goal.keep_first-requires-clause-first
 keep_first-requires-clause-first g c =

@@ -1,6 +1,6 @@
 -- Each step back is tested, and so leads on to what the steps before lead to.
 use Rattle.std.proofs.Common.{List, [], ◌∷◌, ◌++◌, inr, sym, subst}
-use Rattle.race_edges.specs.declared.listing.Edge.{Edge}
+use Rattle.race_edges.specs.declared.edge_list.Edge.{Edge}
 use Rattle.race_verdict.specs.Traces.{capacities}
 use Rattle.race_draw.{specs.Layout.IsWay, proofs.WaySteps.{edge_is, longer, ended}}
 use Rattle.race_draw.proofs.way.back.Goals as goal

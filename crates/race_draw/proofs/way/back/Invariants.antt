@@ -1,5 +1,5 @@
 use Rattle.std.proofs.Common.{List, ◌++◌}
-use Rattle.race_edges.specs.declared.listing.Edge.{Edge}
+use Rattle.race_edges.specs.declared.edge_list.Edge.{Edge}
 use Rattle.race_verdict.specs.Traces.{capacities}
 use Rattle.race_draw.specs.Layout.{IsWay}
 use Rattle.race_draw.proofs.way.back.Given as goal

@@ -1,6 +1,6 @@
 use Rattle.std.proofs.{lemmas.Grind.elements, Common.{◌∙◌, ◌<◌, ◌+◌, ◌==◌, IsTrue, refl, sym, ap, subst, rules, arith}}
 use Rattle.race_records.specs.declared.{event.Op.{Op, TheVariants.{Lock, RLock, TryLock, TryRLock}}, kind.Kind.Kind}
-use Rattle.race_records.specs.{Declarations.{DeclsState, count_of, counts_of, capacity_of}, Parts.op_is_in_range}
+use Rattle.race_records.specs.{Declarations.{DeclsState, count_of, counts_of, capacity_of}, Operands.op_is_in_range}
 use Rattle.race_legal.proofs.RangeLemmas.{range_from_fits}
 use Rattle.race_verdict.specs.Traces.{capacities}
 use Rattle.race_edges.proofs.NumberLemmas.{chan_in_range, told_send, told_lock, told_read_lock}

@@ -1,6 +1,6 @@
 use Rattle.std.{proofs.{Common.{◌≡◌, Ok, List, take, length, subst}, lemmas.List.take_all}, specs.List.flat_map}
 use Rattle.race_records.{specs.Page.Printing, proofs.PageLemmas.{piece_breaks_off, breaks_off_before, prints_behind}}
-use Rattle.race_edges.specs.declared.listing.Edge.{Edge}
+use Rattle.race_edges.specs.declared.edge_list.Edge.{Edge}
 use Rattle.race_report.specs.Report.{edge_line, edges_line}
 use Rattle.race_report.proofs.edge_lines.print_edges.Goals as goal
 

@@ -9,38 +9,38 @@ use Rattle.race_legal.specs.ReplayState.{counts_in}
 use Rattle.race_requests.proofs.making.lone_op.Goals as goal
 
 -- what is said of the request that was matched is said of the one that was asked
-of_ask : {ask this : Ask} {op : Option Op} (past : List Event) (way : ℕ) → ask ≡ this → op ≡ op_of past this way → op ≡ op_of past ask way
-of_ask past way is said = said ∙ sym (ap (λ a. op_of past a way) is)
+of_ask : {ask this : Ask} {op : Option Op} (past : List Event) (branch : ℕ) → ask ≡ this → op ≡ op_of past this branch → op ≡ op_of past ask branch
+of_ask past branch is said = said ∙ sym (ap (λ a. op_of past a branch) is)
 
 pub returns-in-Read-clause-op : goal.returns-in-Read-clause-op
-returns-in-Read-clause-op g c D past S = of_ask past c.args.way c.in-Read.is (rw (c.last_value.ensures D past S))
+returns-in-Read-clause-op g c D past S = of_ask past c.args.branch c.in-Read.is (rw (c.last_value.ensures D past S))
 
 pub returns-in-Unlock-clause-op : goal.returns-in-Unlock-clause-op
-returns-in-Unlock-clause-op g c D past S = of_ask past c.args.way c.in-Unlock.is (rw (c.unlock_op.ensures, c.is_held.ensures D past S))
+returns-in-Unlock-clause-op g c D past S = of_ask past c.args.branch c.in-Unlock.is (rw (c.unlock_op.ensures, c.is_held.ensures D past S))
 
 pub returns-in-RUnlock-clause-op : goal.returns-in-RUnlock-clause-op
-returns-in-RUnlock-clause-op g c D past S = of_ask past c.args.way c.in-RUnlock.is (rw (c.runlock_op.ensures, c.is_read_held.ensures D past S))
+returns-in-RUnlock-clause-op g c D past S = of_ask past c.args.branch c.in-RUnlock.is (rw (c.runlock_op.ensures, c.is_read_held.ensures D past S))
 
 pub returns-in-Do-clause-op : goal.returns-in-Do-clause-op
-returns-in-Do-clause-op g c D past S = of_ask past c.args.way c.in-Do.is (rw (c.do_op.ensures, c.is_begun.ensures D past S))
+returns-in-Do-clause-op g c D past S = of_ask past c.args.branch c.in-Do.is (rw (c.do_op.ensures, c.is_begun.ensures D past S))
 
 pub returns-in-Send-clause-op : goal.returns-in-Send-clause-op
-returns-in-Send-clause-op g c D past S = of_ask past c.args.way c.in-Send.is (c.lone_send.ensures.op D past S c.args.way)
+returns-in-Send-clause-op g c D past S = of_ask past c.args.branch c.in-Send.is (c.lone_send.ensures.op D past S c.args.branch)
 
 pub returns-in-Recv-clause-op : goal.returns-in-Recv-clause-op
-returns-in-Recv-clause-op g c D past S = of_ask past c.args.way c.in-Recv.is (c.lone_recv.ensures.op D past S c.args.way)
+returns-in-Recv-clause-op g c D past S = of_ask past c.args.branch c.in-Recv.is (c.lone_recv.ensures.op D past S c.args.branch)
 
 pub returns-in-Close-clause-op : goal.returns-in-Close-clause-op
-returns-in-Close-clause-op g c D past S = of_ask past c.args.way c.in-Close.is (c.lone_close.ensures.op D past S c.args.way)
+returns-in-Close-clause-op g c D past S = of_ask past c.args.branch c.in-Close.is (c.lone_close.ensures.op D past S c.args.branch)
 
 pub returns-in-Select-clause-op : goal.returns-in-Select-clause-op
-returns-in-Select-clause-op g c D past S = of_ask past c.args.way c.in-Select.is (c.lone_select.ensures.op D past S)
+returns-in-Select-clause-op g c D past S = of_ask past c.args.branch c.in-Select.is (c.lone_select.ensures.op D past S)
 
 pub returns-in-TryLock-clause-op : goal.returns-in-TryLock-clause-op
-returns-in-TryLock-clause-op g c D past S = of_ask past c.args.way c.in-TryLock.is (rw c.try_op.ensures)
+returns-in-TryLock-clause-op g c D past S = of_ask past c.args.branch c.in-TryLock.is (rw c.try_op.ensures)
 
 pub returns-in-TryRLock-clause-op : goal.returns-in-TryRLock-clause-op
-returns-in-TryRLock-clause-op g c D past S = of_ask past c.args.way c.in-TryRLock.is (rw c.tryr_op.ensures)
+returns-in-TryRLock-clause-op g c D past S = of_ask past c.args.branch c.in-TryRLock.is (rw c.tryr_op.ensures)
 
 pub lone_select-requires : goal.lone_select-requires
 lone_select-requires g c =
@@ -60,12 +60,12 @@ returns-in-RUnlock-clause-range g c =
 pub returns-in-TryLock-clause-range : goal.returns-in-TryLock-clause-range
 returns-in-TryLock-clause-range g c =
     let less = alone _ (rw c.in-TryLock.is at c.requires) in
-    either (counts_in c.args.replay.now) (c.args.way == 0) (TryLock c.in-TryLock.lock) (TryFail c.in-TryLock.lock) _ c.try_op.ensures less less
+    either (counts_in c.args.replay.now) (c.args.branch == 0) (TryLock c.in-TryLock.lock) (TryFail c.in-TryLock.lock) _ c.try_op.ensures less less
 
 pub returns-in-TryRLock-clause-range : goal.returns-in-TryRLock-clause-range
 returns-in-TryRLock-clause-range g c =
     let less = alone _ (rw c.in-TryRLock.is at c.requires) in
-    either (counts_in c.args.replay.now) (c.args.way == 0) (TryRLock c.in-TryRLock.lock) (TryFail c.in-TryRLock.lock) _ c.tryr_op.ensures less less
+    either (counts_in c.args.replay.now) (c.args.branch == 0) (TryRLock c.in-TryRLock.lock) (TryFail c.in-TryRLock.lock) _ c.tryr_op.ensures less less
 
 pub returns-in-Do-clause-range : goal.returns-in-Do-clause-range
 returns-in-Do-clause-range g c =

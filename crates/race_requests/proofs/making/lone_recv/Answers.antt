@@ -1,16 +1,16 @@
 -- The reader answers the word of the run so far.
 use Rattle.std.proofs.Common.{ℕ, Option, Some, None, IsTrue, sym, ap, subst, ◌∙◌}
 use Rattle.race_records.specs.declared.{event.Op.{Op, TheVariants.{Recv, RecvClosed}}, kind.Kind.Kind}
-use Rattle.race_records.specs.Parts.{chan_is_in_range}
+use Rattle.race_records.specs.Operands.{chan_is_in_range}
 use Rattle.race_legal.specs.ReplayState.{counts_in}
 use Rattle.race_requests.{specs.{declared.request.Ask.Ask, Choices.op_of}, proofs.RangeLemmas.received}
 use Rattle.race_requests.proofs.making.lone_recv.Goals as goal
 
 pub returns-clause-op : goal.returns-clause-op
-returns-clause-op g c D past S way =
+returns-clause-op g c D past S branch =
     ap (λ (o : Op). Some o) c.recv_op.ensures
     ∙ ap (λ (f : Option ℕ). Some (elim f [ Some v ↦ Recv c.in-Some.chan v | None ↦ RecvClosed c.in-Some.chan ])) (c.front.ensures D past S)
-    ∙ sym (ap (λ (x : Option ℕ). op_of past (Ask.Recv x) way) c.in-Some.is)
+    ∙ sym (ap (λ (x : Option ℕ). op_of past (Ask.Recv x) branch) c.in-Some.is)
 
 pub returns-clause-range : goal.returns-clause-range
 returns-clause-range g c =

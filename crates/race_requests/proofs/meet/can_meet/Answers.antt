@@ -7,7 +7,7 @@ use Rattle.race_requests.proofs.meet.can_meet.Goals as goal
 
 pub breaks-requires : goal.breaks-requires
 breaks-requires g c =
-    meeting (counts_in c.args.replay.now) c.args.sender.now c.args.receiver.now c.args.way c.args.other_way c.in-Some.event
+    meeting (counts_in c.args.replay.now) c.args.sender.now c.args.receiver.now c.args.branch c.args.other_branch c.in-Some.event
     c.requires.who c.requires.whom c.requires.range c.in-Some.ensures
 
 pub returns-in-Some : goal.returns-in-Some

@@ -6,7 +6,7 @@ use Rattle.race_requests.proofs.search.pick_choice.Goals as goal
 
 pub returns-in-At : goal.returns-in-At
 returns-in-At g c =
-    let list = filter (g.B.Board.admitted c.args.board.now) (tuples (g.B.Board.size c.args.board.now) (g.B.Board.ways_at c.args.board.now)) in
+    let list = filter (g.B.Board.admitted c.args.board.now) (tuples (g.B.Board.size c.args.board.now) (g.B.Board.branches_at c.args.board.now)) in
     let within = slice_get_within list c.args.pick c.in-At.choice c.in-At.ensures in
     sym c.in-At.ensures ∙ ap (slice_get list) (sym (mod-eq_of_lt within))
 

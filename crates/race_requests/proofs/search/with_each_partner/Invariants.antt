@@ -7,7 +7,7 @@ abbrev pub invariant-loop-from : goal.invariant-loop-from
 invariant-loop-from g l = record {
   within : l.from ≤ g.B.Board.size l.board;
   passed :
-      IsFound (filter (g.B.Board.admitted l.board) (flat_map (with_partner (g.B.Board.ways_at l.board) l.place l.way) (below l.from))) l.skip (Left l.left);
+      IsFound (filter (g.B.Board.admitted l.board) (flat_map (with_partner (g.B.Board.branches_at l.board) l.place l.branch) (below l.from))) l.skip (Left l.left);
 }
 
 abbrev pub decreases-loop-from : goal.decreases-loop-from

@@ -3,4 +3,4 @@ use Rattle.race_text.specs.declared.form.Field.{Field}
 use Rattle.race_script.proofs.form.ask_fields.Given as goal
 
 abbrev pub invariant-loop-kind : goal.invariant-loop-kind
-invariant-loop-kind l = l.fields.items ≡ map Field.Part (take l.kind-index l.kinds)
+invariant-loop-kind l = l.fields.items ≡ map Field.Operand (take l.kind-index l.kinds)

@@ -1,7 +1,7 @@
 -- Replay and shard stand for no event before the first, and for all behind the last.
 use Rattle.std.proofs.Common.{◌≡◌, ◌∷◌, [], List, Option, Some, None, sym, subst}
 use Rattle.race_records.specs.{declared.event.Event.Event, Declarations.DeclsState}
-use Rattle.race_legal.specs.{declared.listing.Illegal.Illegal, ReplayState.ReplayState}
+use Rattle.race_legal.specs.{declared.legality.Illegal.Illegal, ReplayState.ReplayState}
 use Rattle.race_shards.specs.Shards.{ShardState, ShardStandsFor}
 use Rattle.race_shards.specs.Judging.{CanJudge, IsJudged, Judges}
 use Rattle.race_shards.proofs.AloneSteps.{can_judge_alone, judged_alone}

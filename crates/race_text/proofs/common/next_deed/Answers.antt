@@ -15,10 +15,10 @@ deed_said-requires g c = c.in_ok-object.ensures.declared
 
 pub returns-clause-says : goal.returns-clause-says
 returns-clause-says g c =
-    let verb = c.args.verb in
-    let object = c.in_ok-object.ensures.says (object_kind verb) c.in_ok-has_value.ensures.object c.in_ok-deed.ensures.wanted in
+    let keyword = c.args.keyword in
+    let object = c.in_ok-object.ensures.says (object_kind keyword) c.in_ok-has_value.ensures.object c.in_ok-deed.ensures.wanted in
     says_deed c.args.decls.now.declarations c.args.front.bytes.now c.in_ok-object.front.bytes.now c.in_ok-value.front.bytes.now
-    verb (object_kind verb) c.in_ok-has_value.has_value c.in_ok-object.object (op_of c.in_ok-deed.deed) c.in_ok-value.value
+    keyword (object_kind keyword) c.in_ok-has_value.has_value c.in_ok-object.object (op_of c.in_ok-deed.deed) c.in_ok-value.value
     c.in_ok-has_value.ensures.kinds object c.in_ok-value.ensures.says c.in_ok-deed.ensures.op c.in_ok-has_value.ensures.one_place
 
 pub returns-clause-marked : goal.returns-clause-marked

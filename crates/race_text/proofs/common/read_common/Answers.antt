@@ -4,10 +4,10 @@ use Rattle.race_text.proofs.common.read_common.Goals as goal
 
 pub returns : goal.returns
 returns g c =
-    says_event c.args.decls.now.declarations c.args.bytes.now c.in_ok-verb.front.bytes.now c.in_ok-goroutine.front.bytes.now
-    c.in_ok-deed.front.bytes.now c.in_ok-place.rest.now c.in_ok-verb.verb c.in_ok-goroutine.goroutine c.in_ok-who.who
+    says_event c.args.decls.now.declarations c.args.bytes.now c.in_ok-keyword.front.bytes.now c.in_ok-goroutine.front.bytes.now
+    c.in_ok-deed.front.bytes.now c.in_ok-place.rest.now c.in_ok-keyword.keyword c.in_ok-goroutine.goroutine c.in_ok-who.who
     (op_of c.in_ok-deed.deed) c.in_ok-place.place.now
-    c.in_ok-verb.ensures.says c.in_ok-goroutine.ensures.says (sym c.in_ok-who.ensures) c.in_ok-deed.ensures.says c.in_ok-place.ensures
+    c.in_ok-keyword.ensures.says c.in_ok-goroutine.ensures.says (sym c.in_ok-who.ensures) c.in_ok-deed.ensures.says c.in_ok-place.ensures
 
 pub next_deed-requires-clause-decls : goal.next_deed-requires-clause-decls
 next_deed-requires-clause-decls g c = c.requires

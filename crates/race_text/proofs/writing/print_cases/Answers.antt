@@ -2,7 +2,7 @@ use Rattle.std.proofs.Common.{◌≡◌, ◌<◌, ◌≤◌, ◌∙◌, ◌∷�
 use Rattle.std.proofs.lemmas.{List.{take_all, Sums.AllPass-from_list_all}, Option.get_or_from_slice_get}
 use Rattle.std.specs.List.{flat_map}
 use Rattle.race_records.specs.{declared.{cases.Case.Case, kind.Kind.Kind}, Declarations.count_of, Page.Printing}
-use Rattle.race_records.{specs.Parts.case_is_in_range, proofs.PageLemmas.{piece_behind, piece_breaks_off}}
+use Rattle.race_records.{specs.Operands.case_is_in_range, proofs.PageLemmas.{piece_behind, piece_breaks_off}}
 use Rattle.race_text.{specs.{Text.case_text, Writing.separator}, proofs.CasePieces.{all_pieces, pieces_len, piece_at}}
 use Rattle.race_text.proofs.CasePieces.{pieces_printed, some_case}
 use Rattle.race_text.proofs.writing.print_cases.Goals as goal

@@ -1,33 +1,27 @@
-use Rattle.std.proofs.Common.{ℕ, Result, sym, subst}
-use Rattle.race_records.specs.declared.sink.WriteFault.{WriteFault}
-use Rattle.race_text.specs.{Fault.trace_causes, Output.Writes}
-use Rattle.race_tool.specs.{declared.stream_found.Found.Found, Engines.Never, Outcome.Answers}
-use Rattle.race_tool.{specs.Streams.{IsFoundOf, found_text, found_status}, proofs.InputLemmas.itself}
-use Rattle.race_tool.proofs.StreamedAnswers.{answers_written, answers_cut_off}
+use Rattle.std.proofs.Common.{Ok, Err}
+use Rattle.race_tool.specs.declared.reply.Reply.{Reply}
+use Rattle.race_tool.proofs.{EngineLemmas.{was_read_so, ok_of, answers_sent, answers_refused}, StreamedAnswers.is_named}
 use Rattle.race_tool.proofs.check.check_as_read.Goals as goal
 
--- what was found is right for the bytes that were read
-pub write-requires : goal.write-requires
-write-requires g c =
-    let read = c.in-Ok.ensures.ok in
-    (read.bytes, c.in-Ok-find_judged.ensures read.bytes (read.is_so read.bytes (itself read.bytes read.to_end)))
+pub send-requires : goal.send-requires
+send-requires g c =
+    let is = ok_of c.read_judged.result c.in-Ok-Ok.field-0 (Ok c.in-Ok-Ok.whole) c.in-Ok-Ok.is c.in-Ok-Ok.field-0-is in
+    let so = was_read_so _ _ _ _ _ c.read_judged.result c.read_judged.ensures (Ok c.in-Ok-Ok.whole) is in
+    is_named c.in-Ok.noted _ (c.in-Ok.ensures _ so)
 
--- all was written
-pub returns-in-Ok-write : goal.returns-in-Ok-write
-returns-in-Ok-write g c =
-    let text = c.in-Ok.text in
-    let found = c.in-Ok-find_judged.found in
-    let wrote = subst (λ (r : Result (Unit {0}) WriteFault). Writes g.W.Write.contents r c.args.sink.now c.write.new.sink (found_text found)) c.in-Ok-write.is c.write.ensures in
-    subst (λ (n : ℕ). Answers {F = Found _} trace_causes IsFoundOf found_text found_status Never g.R.Read.remaining g.W.Write.contents
-    c.args.source.now c.read_judged.new.source c.args.sink.now c.write.new.sink n)
-    (sym c.status.ensures)
-    (answers_written g.R.Read.remaining g.W.Write.contents c.args.source.now c.read_judged.new.source c.args.sink.now c.write.new.sink
-    text c.in-Ok.ensures.ok (c.in-Ok.ensures.calm (λ e. cc)) found c.in-Ok-find_judged.ensures wrote)
+pub returns-in-Ok : goal.returns-in-Ok
+returns-in-Ok g c =
+    let is = ok_of c.read_judged.result c.in-Ok-Ok.field-0 (Ok c.in-Ok-Ok.whole) c.in-Ok-Ok.is c.in-Ok-Ok.field-0-is in
+    answers_sent _ _ _ _ _ _ _ _ _ _ _ c.read_judged.result c.read_judged.ensures (Ok c.in-Ok-Ok.whole) is
+    (Reply.Found c.in-Ok.noted) c.send.new.sink c.send.result (λ bytes text. c.in-Ok.ensures bytes text) c.send.ensures
 
--- a write failed
-pub returns-in-Ok-find_judged : goal.returns-in-Ok-find_judged
-returns-in-Ok-find_judged g c =
-    let found = c.in-Ok-find_judged.found in
-    let wrote = subst (λ (r : Result (Unit {0}) WriteFault). Writes g.W.Write.contents r c.args.sink.now c.write.new.sink (found_text found)) c.in-Err-write.is c.write.ensures in
-    answers_cut_off g.R.Read.remaining g.W.Write.contents c.args.source.now c.read_judged.new.source c.args.sink.now c.write.new.sink
-    c.in-Ok.text c.in-Ok.ensures.ok (c.in-Ok.ensures.calm (λ e. cc)) found c.in-Ok-find_judged.ensures c.in-Err-write.field-0 wrote
+pub returns-in-Ok-Err : goal.returns-in-Ok-Err
+returns-in-Ok-Err g c =
+    let is = ok_of c.read_judged.result c.in-Ok-Err.field-0 (Err c.in-Ok-Err.fault) c.in-Ok-Err.is c.in-Ok-Err.field-0-is in
+    answers_sent _ _ _ _ _ _ _ _ _ _ _ c.read_judged.result c.read_judged.ensures (Err c.in-Ok-Err.fault) is
+    (Reply.Faulty c.in-Ok-Err.fault) c.send-in-Ok-Err.new.sink c.send-in-Ok-Err.result (λ bytes so. so) c.send-in-Ok-Err.ensures
+
+pub returns-in-Err-find_judged : goal.returns-in-Err-find_judged
+returns-in-Err-find_judged g c =
+    let is = ok_of c.read_judged.result c.in-Ok-Ok.field-0 (Ok c.in-Ok-Ok.whole) c.in-Ok-Ok.is c.in-Ok-Ok.field-0-is in
+    answers_refused _ _ _ _ _ _ _ _ _ _ _ c.read_judged.result c.read_judged.ensures c.in-Ok-Ok.whole is

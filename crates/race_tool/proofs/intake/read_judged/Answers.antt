@@ -7,7 +7,7 @@ use Rattle.race_tool.proofs.IntakeTurns.{has_begun, block_still, next_turn}
 use Rattle.race_tool.proofs.intake.read_judged.Goals as goal
 
 pub new-reader-requires : goal.new-reader-requires
-new-reader-requires g c = record { stream = c.new-first.ensures.stands; declared = tt }
+new-reader-requires g c = record { stream = c.keyed-first.ensures.stands; declared = tt }
 
 pub loop-intake-init : goal.loop-intake-init
 loop-intake-init g c =

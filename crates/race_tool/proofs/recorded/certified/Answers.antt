@@ -14,13 +14,10 @@ has_text_by t decls events same_decls same_events well_formed is =
 pub returns-in-Ok-clause-run : goal.returns-in-Ok-clause-run
 returns-in-Ok-clause-run g c = c.in-Ok.ensures.run.0 refl
 
-pub returns-in-Ok-clause-trace : goal.returns-in-Ok-clause-trace
-returns-in-Ok-clause-trace g c = record {
-  decls = refl;
-  events = refl;
-  has_text = has_text_by c.trace-trace.result.now c.args.recording.decls c.args.recording.events c.trace-trace.ensures.decls c.trace-trace.ensures.events
-      (subst IsWellFormed c.decls-decls.ensures.decls c.decls-decls.ensures.well_formed) c.events-events.ensures.is_trace;
-}
+pub returns-in-Ok-clause-text : goal.returns-in-Ok-clause-text
+returns-in-Ok-clause-text g c =
+    has_text_by c.trace-trace.result.now c.args.recording.decls c.args.recording.events c.trace-trace.ensures.decls c.trace-trace.ensures.events
+    (subst IsWellFormed c.decls-decls.ensures.decls c.decls-decls.ensures.well_formed) c.events-events.ensures.is_trace
 
 pub returns-in-Err-clause-none : goal.returns-in-Err-clause-none
 returns-in-Err-clause-none g c = λ is. true≢false (sym (c.in-Err.ensures.run.1 is))

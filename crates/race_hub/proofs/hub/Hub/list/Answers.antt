@@ -8,7 +8,7 @@ returns-clause-kept g c = subst IsKept c.self.view_is c.self.invariant.0.kept
 pub new-requires-clause-few : goal.new-requires-clause-few
 new-requires-clause-few g c =
     let holds = c.self.invariant.0 in
-    let few = few_wait (hub_state c.self.inside) holds.kept.once holds.kept.places in
+    let few = few_wait (hub_state c.self.inside.fields) holds.kept.once holds.kept.places in
     let most = holds.few_goroutines in
     let len = ap length c.as_slice.ensures.value in
     omega (arith, few, most, len)

@@ -1,6 +1,6 @@
 use Rattle.std.proofs.Common.{◌∙◌, length, ap, subst, arith}
 use Rattle.race_hub.specs.{Logs.{LogsState}, Finish.IsLeastOther, Tracks.{TrackState, IsFirstOther}}
-use Rattle.race_hub.proofs.{TableLemmas.length_map, LogsLemmas.{passed_logs, all_tracked, parts_are, other_is, other_told}}
+use Rattle.race_hub.proofs.{TableLemmas.length_map, LogsLemmas.{passed_logs, all_tracked, operands_are, other_is, other_told}}
 use Rattle.race_hub.proofs.logs.Logs.compare.Goals as goal
 
 pub first_other-requires : goal.first_other-requires
@@ -32,4 +32,4 @@ returns-in-None-clause-parts g c =
     let new = c.pass_all.new.tracks.items in
     let tracked = all_tracked c.args.events.now old new c.self.invariant c.pass_all.ensures in
     let other = other_told c.args.events.now new c.as_slice.result.now c.first_other.result c.as_slice.ensures.value c.first_other.ensures tracked in
-    parts_are c.args.events.now new (subst (IsFirstOther new c.args.events.now) c.in-None.is other)
+    operands_are c.args.events.now new (subst (IsFirstOther new c.args.events.now) c.in-None.is other)

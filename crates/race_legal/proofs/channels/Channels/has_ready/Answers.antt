@@ -1,7 +1,7 @@
 -- The first case that is ready is found.
 use Rattle.std.proofs.Common.{◌<◌, ◌||◌, ◌∙◌, true, false, length, sym, arith}
 use Rattle.std.proofs.lemmas.List.Folds.{list_any_at, list_any_more}
-use Rattle.race_records.specs.Parts.{case_is_in_range}
+use Rattle.race_records.specs.Operands.{case_is_in_range}
 use Rattle.race_legal.{specs.RulesKept.is_ready_in, proofs.Searches.{each_passes, passes_at}}
 use Rattle.race_legal.proofs.channels.Channels.has_ready.Goals as goal
 

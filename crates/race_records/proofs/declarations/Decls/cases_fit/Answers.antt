@@ -1,6 +1,6 @@
 use Rattle.std.proofs.{Common.{◌<◌, ◌&&◌, ◌∙◌, length, sym, ap, arith}, lemmas.List.Folds.{list_all_at, list_all_more}}
 use Rattle.std.proofs.lemmas.Option.{get_or_from_slice_get}
-use Rattle.race_records.specs.{declared.kind.Kind.Kind, Declarations.count_of, Parts.case_is_in_range}
+use Rattle.race_records.specs.{declared.kind.Kind.Kind, Declarations.count_of, Operands.case_is_in_range}
 use Rattle.race_records.proofs.declarations.Decls.cases_fit.Goals as goal
 
 pub returns-then-not-chan_fits : goal.returns-then-not-chan_fits

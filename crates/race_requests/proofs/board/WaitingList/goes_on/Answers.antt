@@ -22,4 +22,4 @@ can_go_on-requires-clause-range g c =
 pub returns : goal.returns
 returns g c =
     c.can_go_on.ensures c.args.self.now.past c.run.ensures.stands
-    ∙ ap (λ ds. is_legal_next (capacity_of ds) c.args.self.now.past (lone_event c.args.self.now.past c.args.waiter.now c.args.way)) c.run.ensures.declarations
+    ∙ ap (λ ds. is_legal_next (capacity_of ds) c.args.self.now.past (lone_event c.args.self.now.past c.args.waiter.now c.args.branch)) c.run.ensures.declarations

@@ -28,5 +28,5 @@ can_meet-requires-clause-range g c =
 pub returns : goal.returns
 returns g c =
     c.can_meet.ensures c.args.self.now.past c.run.ensures.stands
-    ∙ ap (λ ds. is_legal_next (capacity_of ds) c.args.self.now.past (meet_event c.args.sender.now c.args.way c.args.receiver.now c.args.other_way))
+    ∙ ap (λ ds. is_legal_next (capacity_of ds) c.args.self.now.past (meet_event c.args.sender.now c.args.branch c.args.receiver.now c.args.other_branch))
     c.run.ensures.declarations

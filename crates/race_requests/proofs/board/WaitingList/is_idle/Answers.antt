@@ -4,6 +4,6 @@ use Rattle.race_requests.proofs.IdleLemmas.{meets_nobody}
 use Rattle.race_requests.proofs.board.WaitingList.is_idle.Goals as goal
 
 pub returns-then-is_stopped-clause-meets : goal.returns-then-is_stopped-clause-meets
-returns-then-is_stopped-clause-meets g c untaken way =
-    meets_nobody (capacity_of c.args.self.now.declarations) c.args.self.now.past c.args.self.now.waiting c.at-waiter.result.now c.args.place way
-    c.at-waiter.ensures.found (c.has_no_taker.ensures untaken way)
+returns-then-is_stopped-clause-meets g c untaken branch =
+    meets_nobody (capacity_of c.args.self.now.declarations) c.args.self.now.past c.args.self.now.waiting c.at-waiter.result.now c.args.place branch
+    c.at-waiter.ensures.found (c.has_no_taker.ensures untaken branch)

@@ -15,8 +15,8 @@ is_held_up-requires-clause-range g c =
     ask_is r.1.now.declarations r.0.now c.args.self.now.past c.run.ensures.stands c.args.waiter.now (rw c.run.ensures.declarations c.requires)
 
 pub returns : goal.returns
-returns g c held way =
+returns g c held branch =
     let past = c.args.self.now.past in
     let w = c.args.waiter.now in
-    subst (λ ds. is_legal_next (capacity_of ds) past (lone_event past w way) ≡ false) c.run.ensures.declarations
-    (none_goes_on (capacity_of c.run.result.1.now.declarations) past w way (c.is_held_up.ensures past c.run.ensures.stands held w.who way))
+    subst (λ ds. is_legal_next (capacity_of ds) past (lone_event past w branch) ≡ false) c.run.ensures.declarations
+    (none_goes_on (capacity_of c.run.result.1.now.declarations) past w branch (c.is_held_up.ensures past c.run.ensures.stands held w.who branch))

@@ -12,5 +12,5 @@ at-requires c = grind (arith, common_steps) steps 1000000
 pub returns-clause-passed : goal.returns-clause-passed
 returns-clause-passed g c p least less q =
     passed_over (capacity_of c.args.self.now.declarations)
-    c.args.self.now.past c.args.self.now.waiting c.at.result.now c.args.place c.args.way p q c.in-Some.chan
+    c.args.self.now.past c.args.self.now.waiting c.at.result.now c.args.place c.args.branch p q c.in-Some.chan
     c.at.ensures.found (c.in-Some.ensures ∙ ap sent_on c.offer_at-offer.ensures.offer) (c.next_receiver-next.ensures.passed p least less)

@@ -10,17 +10,17 @@ returns-clause-marked c chan received =
     let offers = offers_of c.args.ask.now in
     let found = any_found (receives_from chan) offers received in
     let within = slice_get_within offers found.index found.element found.there in
-    c.loop-way.invariant.marked chan found.index (omega (arith, within, c.offer_count-way-end.ensures.count, c.loop-way-test.false))
+    c.loop-branch.invariant.marked chan found.index (omega (arith, within, c.offer_count-branch-end.ensures.count, c.loop-branch-test.false))
     (found.there ∙ ap (λ o. Some o) (received_is chan found.element found.passes))
 
-pub loop-way-preserved : goal.loop-way-preserved
-loop-way-preserved c = record {
-  marked = λ chan k below there. elim (cases_lt k c.loop-way.way) [
-    | inl early ↦ c.mark_offer.ensures.kept chan c.args.place (c.loop-way.invariant.marked chan k early there)
+pub loop-branch-preserved : goal.loop-branch-preserved
+loop-branch-preserved c = record {
+  marked = λ chan k below there. elim (cases_lt k c.loop-branch.branch) [
+    | inl early ↦ c.mark_offer.ensures.kept chan c.args.place (c.loop-branch.invariant.marked chan k early there)
     | inr late ↦
-        let last : c.loop-way.way ≡ k = omega (arith, below, late) in
+        let last : c.loop-branch.branch ≡ k = omega (arith, below, late) in
         c.mark_offer.ensures.marked chan (c.offer_at.ensures.offer ∙ ap (slice_get (offers_of c.args.ask.now)) last ∙ there)
   ];
-  kept = λ other i was. c.mark_offer.ensures.kept other i (c.loop-way.invariant.kept other i was);
+  kept = λ other i was. c.mark_offer.ensures.kept other i (c.loop-branch.invariant.kept other i was);
   last = c.mark_offer.ensures.last;
 }

@@ -3,9 +3,9 @@ use Rattle.std.proofs.Common.{◌≡◌, ℕ, ◌<◌, ◌+◌, slice_get, Some}
 use Rattle.race_requests.specs.{declared.request.Offer.Offer, Receivers.{IsInSpan, ReachTo}, Table.offers_of}
 use Rattle.race_requests.proofs.receivers.Receivers.mark_offers.Given as goal
 
-abbrev pub invariant-loop-way : goal.invariant-loop-way
-invariant-loop-way l = record {
-  marked : (chan k : ℕ) → k < l.way → slice_get (offers_of l.ask) k ≡ Some (Offer.Recv (Some chan)) → IsInSpan l.self chan l.place;
+abbrev pub invariant-loop-branch : goal.invariant-loop-branch
+invariant-loop-branch l = record {
+  marked : (chan k : ℕ) → k < l.branch → slice_get (offers_of l.ask) k ≡ Some (Offer.Recv (Some chan)) → IsInSpan l.self chan l.place;
   kept : (chan i : ℕ) → IsInSpan l.fn.self chan i → IsInSpan l.self chan i;
   last : ReachTo l.self l.place (l.place + 1);
 }

@@ -15,9 +15,9 @@ returns-then-begun-gt0 g c = record {
       let words = parts_left 32 c.args.rest in
       let made = c.word_cause.ensures in
       let told = c.unwrap.ensures in
-      sym (ap owed (declares_cause s c.requires.read c.args.line.now c.args.noun words c.requires.words
+      sym (ap owed (declares_cause s c.requires.read c.args.line.now c.args.keyword words c.requires.words
       ∙ (λ k. text_cause (seen_so_far (ap (λ (x : ReadState). x.decls.declarations) (sym c.self.view_is) k) (sym c.begun-begun.ensures k))
-      (Some (Word.Declares c.args.noun)) words)
+      (Some (Word.Declares c.args.keyword)) words)
       ∙ sym made ∙ told));
 }
 
@@ -30,7 +30,7 @@ returns g c =
     let e = c.read_declaration.ensures in
     let decls : c.self.inside.decls ≡ s.decls = ap (λ (x : ReadState). x.decls) c.self.view_is in
     record {
-      taken = declared_answered s c.requires.read c.args.line.now c.args.noun (parts_left 32 c.args.rest) c.requires.words none
+      taken = declared_answered s c.requires.read c.args.line.now c.args.keyword (parts_left 32 c.args.rest) c.requires.words none
           c.read_declaration.result _
           (subst (λ (x : DeclsState). Refuses (declaration_cause x.declarations c.args.line.now) c.read_declaration.result) decls e.refused)
           (subst (λ (x : DeclsState). AllowsUnless (declaration_cause x.declarations c.args.line.now) c.read_declaration.result TextCause.OutOfMemory)

@@ -21,7 +21,7 @@ returns-in-Some-One-clause-reading g c =
 pub returns-in-Some-Two-clause-taken : goal.returns-in-Some-Two-clause-taken
 returns-in-Some-Two-clause-taken g c =
     let e = subst IsEmpty (sym c.self.view_is) (subst (λ b. IsReadBy b c.args.self.now) c.requires.header c.requires.reading) in
-    let new = c.new_version2.ensures in
+    let new = c.keyed.ensures in
     header_taken _ Version.Two (record {
       first = refl;
       decls = λ i. record { version = new.version i; declarations = new.declarations i; places = new.places i };
@@ -33,7 +33,7 @@ returns-in-Some-Two-clause-taken g c =
 pub returns-in-Some-Two-clause-reading : goal.returns-in-Some-Two-clause-reading
 returns-in-Some-Two-clause-reading g c =
     let e = subst IsEmpty (sym c.self.view_is) (subst (λ b. IsReadBy b c.args.self.now) c.requires.header c.requires.reading) in
-    let new = c.new_version2.ensures in
+    let new = c.keyed.ensures in
     header_read _ Version.Two (record {
       first = refl;
       decls = λ i. record { version = new.version i; declarations = new.declarations i; places = new.places i };

@@ -1,7 +1,7 @@
 -- The judge hasn't failed, so it stands for a list, and no event of it breaks a rule.
 use Rattle.std.proofs.Common.{◌≡◌, ◌<◌, ◌∙◌, List, All, length, arith, map, refl, sym, ap, subst}
 use Rattle.race_model.specs.Verdict.{AreReportedRaces}
-use Rattle.race_verdict.specs.{declared.notes.NotedRace.NotedRace, Notes.{race_noted, verdict_noted}}
+use Rattle.race_verdict.specs.{declared.report.ReportedRace.ReportedRace, Notes.{race_noted, verdict_noted}}
 use Rattle.race_verdict.specs.Races.{race_of, races_of}
 use Rattle.race_shards.specs.{Shards.ShardState, Telling.{told_below, HavePlaces, IsNotedBy}}
 use Rattle.race_shards.{specs.Judging.{JudgeState, Tells, Notes}, proofs.JudgeSteps.{seen, has_shard, places_of}}
@@ -26,7 +26,7 @@ noted_races-requires-clause-places g c =
 pub returns-in-Ok-clause-tells : goal.returns-in-Ok-clause-tells
 returns-in-Ok-clause-tells g c =
     let j : JudgeState = seen c.self.inside in
-    let races : List NotedRace = c.in-Ok.races.items in
+    let races : List ReportedRace = c.in-Ok.races.items in
     let is : map race_noted races ≡ map race_of (races_of (told_below j.shards j.vars)) =
     subst (λ (shards : List ShardState). map race_noted races ≡ map race_of (races_of (told_below shards j.vars))) c.as_slice.ensures.value c.in-Ok.ensures.races in
     subst (λ (j : JudgeState). Tells j (verdict_noted c.of_races.result)) c.self.view_is
@@ -36,7 +36,7 @@ returns-in-Ok-clause-tells g c =
 pub returns-in-Ok-clause-notes : goal.returns-in-Ok-clause-notes
 returns-in-Ok-clause-notes g c =
     let j : JudgeState = seen c.self.inside in
-    let races : List NotedRace = c.in-Ok.races.items in
+    let races : List ReportedRace = c.in-Ok.races.items in
     let all : All (IsNotedBy j.shards j.vars) races =
     subst (λ (shards : List ShardState). All (IsNotedBy shards j.vars) races) c.as_slice.ensures.value c.in-Ok.ensures.noted in
     subst (λ (j : JudgeState). Notes j c.of_races.result) c.self.view_is

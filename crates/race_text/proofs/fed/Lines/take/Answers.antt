@@ -12,7 +12,12 @@ returns-then-is_between_lines-clause-taken g c =
     subst (λ (part : List ℕ). MatchResult c.take_whole.result
     (λ _. (k : g.G.Grammar.Known) → TakesBytes g.G.Grammar.causes (old k) (part ++ c.args.piece.now) (g.G.Grammar.stands_for k new.reader) new.part.items)
     (λ told. (k : g.G.Grammar.Known) → TellsOfBytes g.G.Grammar.causes (old k) (part ++ c.args.piece.now) told))
-    (sym (c.is_between_lines.ensures.0 c.if-is_between_lines.true)) c.take_whole.ensures.taken
+    (sym (c.is_between_lines.ensures.0 c.if-is_between_lines.true))
+    (match_map _ _ _ _ c.take_whole.result (λ _ takes. takes) (λ _ tells k. (tells k).told) c.take_whole.ensures.taken)
+
+pub returns-then-is_between_lines-clause-owed : goal.returns-then-is_between_lines-clause-owed
+returns-then-is_between_lines-clause-owed g c =
+    match_map _ _ _ _ c.take_whole.result (λ _ _. tt) (λ _ tells none k. (tells k).owed) c.take_whole.ensures.taken
 
 pub returns-in_err-keep-clause-taken : goal.returns-in_err-keep-clause-taken
 returns-in_err-keep-clause-taken g c =
@@ -76,5 +81,5 @@ returns-in_ok-take_part-in-Some-clause-taken g c =
     (seam_line (part ++ piece) (part ++ end) others more (seam_part part piece end (parts_of others) c.requires.1.unended parts)) (Stands k) (goes k) in
     match_map _ _ _ _ c.take_whole-in-Some.result
     (λ _ takes k whole more t. takes k whole more (next k whole more t))
-    (λ _ tells k whole more t. tells k whole more (next k whole more t))
+    (λ _ tells k whole more t. (tells k).told whole more (next k whole more t))
     c.take_whole-in-Some.ensures.taken

@@ -19,11 +19,11 @@ returns-in-Some-One-clause-reading g c =
     header_reading Version.One c.args.self.now.decls c.args.self.now.trace reading.0 reading.1
 
 module _ (g : _) (c : goal.After-self-in-Some-Two-1 g) where
-  nothing : c.new_version2.result ≡ nothing_in Version.Two
+  nothing : c.keyed.result ≡ nothing_in Version.Two
   nothing = λ i. record {
-    version = c.new_version2.ensures.version i;
-    declarations = c.new_version2.ensures.declarations i;
-    places = c.new_version2.ensures.places i;
+    version = c.keyed.ensures.version i;
+    declarations = c.keyed.ensures.declarations i;
+    places = c.keyed.ensures.places i;
   }
 
   reading : IsReading false c.args.self.now.decls c.args.self.now.trace
@@ -31,9 +31,9 @@ module _ (g : _) (c : goal.After-self-in-Some-Two-1 g) where
 
 pub returns-in-Some-Two-clause-taken : goal.returns-in-Some-Two-clause-taken
 returns-in-Some-Two-clause-taken g c =
-    header_taken Version.Two c.new_version2.result c.args.self.now.trace (nothing g c) (reading g c).1
+    header_taken Version.Two c.keyed.result c.args.self.now.trace (nothing g c) (reading g c).1
     c.args.line.now (sym c.in-Some-Two.ensures ∙ ap Some c.in-Some-Two.field-0-is)
 
 pub returns-in-Some-Two-clause-reading : goal.returns-in-Some-Two-clause-reading
 returns-in-Some-Two-clause-reading g c =
-    header_reading Version.Two c.new_version2.result c.args.self.now.trace (nothing g c) (reading g c).1
+    header_reading Version.Two c.keyed.result c.args.self.now.trace (nothing g c) (reading g c).1

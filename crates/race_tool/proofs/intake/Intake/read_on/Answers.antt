@@ -1,7 +1,7 @@
 -- A block is fed, and the reader stands for all that was read.
 use Rattle.std.proofs.Common.{length, Bool, Ok, refl, ap, ◌∙◌, arith}
 use Rattle.race_text.specs.Stream.{StandsFor}
-use Rattle.race_tool.proofs.{IntakeLemmas.{at_end, at_enough, at_failure, at_fault, at_limit, fine_now, taken_next}, StreamedLemmas.some_begun}
+use Rattle.race_tool.proofs.{IntakeLemmas.{at_end, at_enough, at_failure, at_fault, at_limit, readable_now, taken_next}, StreamedLemmas.some_begun}
 use Rattle.race_tool.proofs.intake.Intake.read_on.Goals as goal
 
 pub feed_block-requires-clause-ready : goal.feed_block-requires-clause-ready
@@ -44,12 +44,7 @@ returns-in-Ok-Ok-false g c = record {
       let is = r.field-0-is ∙ ap (λ (b : Bool). Ok b) r.field-0-0-test in
       at_end g.R.Read.remaining (StandsFor k) c.args.source.now c.loop-self.source c.feed_block.new.source c.args.self.now c.loop-self.self _
       (held.goes k) held.calm r.field-0 (r.ensures.ok k) (r.ensures.calm (λ e. cc))
-      (record {
-        room = before.room;
-        some = before.some;
-        ready = fine_now (StandsFor k) c.loop-self.self.reader c.feed_block.new.reader r.field-0 _ is r.ensures.fine (r.ensures.ready k) before.ready;
-        limit = before.limit;
-      }) is;
+      (readable_now (StandsFor k) c.loop-self.self _ r.field-0 _ is r.ensures.fine (r.ensures.ready k) before held.room refl before.limit) is;
 }
 
 pub returns-in-Ok-Err : goal.returns-in-Ok-Err
@@ -70,15 +65,11 @@ returns-then-events-self g c = record {
       let is = r.field-0-is ∙ ap (λ (b : Bool). Ok b) r.field-0-0-test in
       let enough = c.if-events-self.true in
       let some = before.some in
+      let less = c.loop-self-test.true in
       let all = ap length c.events.ensures.events in
       at_enough g.R.Read.remaining (StandsFor k) c.args.source.now c.loop-self.source c.feed_block.new.source c.args.self.now c.loop-self.self _
       (held.goes k) held.calm r.field-0 (r.ensures.ok k) (r.ensures.calm (λ e. cc))
-      (record {
-        room = before.room;
-        some = some;
-        ready = fine_now (StandsFor k) c.loop-self.self.reader c.feed_block.new.reader r.field-0 _ is r.ensures.fine (r.ensures.ready k) before.ready;
-        limit = (let less = c.loop-self-test.true in omega (arith, less));
-      }) is refl r.ensures.reads held.later (some_begun c.feed_block.new.reader.lines.reader (omega (arith, enough, some, all)));
+      (readable_now (StandsFor k) c.loop-self.self _ r.field-0 _ is r.ensures.fine (r.ensures.ready k) before held.room refl (omega (arith, less))) is refl r.ensures.reads held.later (some_begun c.feed_block.new.reader.lines.reader (omega (arith, enough, some, all)));
 }
 
 pub loop-self-preserved : goal.loop-self-preserved
@@ -92,13 +83,8 @@ loop-self-preserved g c =
           c.feed_block.new.source c.feed_block.new.reader r.field-0 is (r.ensures.ok k) r.ensures.reads;
       calm = r.ensures.calm (λ e. cc) ∙ held.calm;
       readable = λ k was.
-          let before = held.readable k was in
-          record {
-            room = before.room;
-            some = before.some;
-            ready = fine_now (StandsFor k) c.loop-self.self.reader c.feed_block.new.reader r.field-0 _ is r.ensures.fine (r.ensures.ready k) before.ready;
-            limit = (let less = c.loop-self-test.true in omega (arith, less));
-          };
+          let less = c.loop-self-test.true in
+          readable_now (StandsFor k) c.loop-self.self _ r.field-0 _ is r.ensures.fine (r.ensures.ready k) (held.readable k was) held.room refl (omega (arith, less));
       later = (let later = held.later in omega (arith, later));
       room = held.room;
     }

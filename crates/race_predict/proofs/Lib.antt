@@ -1,0 +1,5 @@
+pub mod FrontLemmas
+pub mod AttemptLemmas
+pub mod EndLemmas
+pub mod PositionLemmas
+pub mod UnracedLemmas

@@ -1,4 +1,0 @@
-use Rattle.race_records.proofs.nouns.object_by.Goals as goal
-
-pub returns-in-RwMutex-None : goal.returns-in-RwMutex-None
-returns-in-RwMutex-None c = cc

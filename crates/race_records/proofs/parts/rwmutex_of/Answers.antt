@@ -1,4 +1,0 @@
-use Rattle.race_records.proofs.parts.rwmutex_of.Goals as goal
-
-pub returns-in-RLock : goal.returns-in-RLock
-returns-in-RLock c = cc

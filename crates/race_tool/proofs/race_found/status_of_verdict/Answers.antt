@@ -1,4 +1,0 @@
-use Rattle.race_tool.proofs.race_found.status_of_verdict.Goals as goal
-
-pub returns-in-Races : goal.returns-in-Races
-returns-in-Races g c = cc

@@ -1,4 +1,0 @@
-use Rattle.race_tool.proofs.run_found.status_of_end.Goals as goal
-
-pub returns-in-Deadlock : goal.returns-in-Deadlock
-returns-in-Deadlock c = cc

@@ -1,4 +1,0 @@
-use Rattle.race_tool.proofs.witness_found.Found.status.Goals as goal
-
-pub returns-in-Broken : goal.returns-in-Broken
-returns-in-Broken g c = cc

@@ -122,10 +122,11 @@ class Trace:
     def __init__(self, text):
         lines = [line.split() for line in text.decode().splitlines()[1:]]
         declared = [line for line in lines if line[0] in KINDS]
+        self.declared = [" ".join(line) for line in declared]
         self.text, self.events = text, lines[len(declared) :]
         self.vars = [line[1] for line in declared if line[0] == "var"]
         self.number = {name: at for at, name in enumerate(["main", *(it[1] for it in declared if it[0] == "goroutine")])}
-        self.run, self.broken = Run(map(" ".join, declared)), None
+        self.run, self.broken = Run(self.declared), None
         for at, event in enumerate(self.events):
             if rule := self.run.broken(event):
                 self.broken = at, rule

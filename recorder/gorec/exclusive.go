@@ -39,10 +39,16 @@ func (v *variable) isMet() bool { return v.id != 0 || v.owner != 0 }
 
 // put writes what the user did to an object, behind all steps so far.
 func (o user) put(op wire.Op, object uint32, bytes uint8) {
-	if r := o.g.window.take(); r != nil {
-		r.Value, r.Object, r.Site, r.OtherSite = uint64(atomic.LoadUint32(&steps)), object, o.s.ID, o.stack
+	now, run := atomic.LoadUint32(&steps), o.runAt()
+	if o.goOn(run, op, object, bytes, now) {
+		return
+	}
+	w := &o.g.window
+	if r := w.take(); r != nil {
+		r.Value, r.Object, r.Site, r.OtherSite = uint64(now), object, o.s.ID, o.stack
 		r.Goroutine, r.Count = o.g.id, partly(bytes)
 		r.Op = op
+		run.record, run.part, run.next = w.next-1, w.part, object+1
 	}
 }
 
@@ -65,7 +71,7 @@ func (v *variable) isOthers(o user, kind wire.VarKind, offset uintptr) bool {
 
 // share has the lock. It declares a variable, and writes what its owner did.
 func (v *variable) share(o user, kind wire.VarKind) {
-	v.id = atomic.AddUint32(&objects, 1)
+	v.id = o.runAt().number()
 	at := atomic.LoadUint32(&steps) + 1
 	for _, a := range [...]access{v.read, v.write} {
 		if a.at != 0 && a.at < at {

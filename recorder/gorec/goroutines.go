@@ -25,6 +25,7 @@ type G struct {
 	site     uint32 // where it was started
 	stack    uint32
 	window   window
+	runs     *[runsKept]run // nil before its first record of a variable
 	reads    repeats
 	writes   repeats
 	ended    uint32        // leaves to repeat a write that others ended
@@ -202,7 +203,7 @@ func (g *G) exit(s *Site) {
 	g.over = true
 	delete(goingOn, g)
 	mu.Unlock()
-	g.reads, g.writes = repeats{}, repeats{}
+	g.reads, g.writes, g.runs = repeats{}, repeats{}, nil
 }
 
 // Main runs the function main.

@@ -54,7 +54,7 @@ func nextPart() {
 	}
 	lockAll()
 	awaitReaders()
-	ended, old := header, mapped
+	ended, old, count := header, mapped, header.Records+ranOn
 	if err := openLog(logPath + "." + strconv.Itoa(int(part+1))); err != nil {
 		seal()
 		unlockAll()
@@ -62,7 +62,7 @@ func nextPart() {
 	}
 	header.Version = ended.Version
 	why := wire.AfterVariables
-	if isFull(ended.Records) {
+	if isFull(count) {
 		why = wire.AfterRecords
 	}
 	atomic.StoreUint32(&ended.Next, uint32(why))

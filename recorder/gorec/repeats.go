@@ -71,26 +71,38 @@ func (t *repeats) has(r repeat) bool {
 	return e.p == r.p && e.stamp == r.stamp && e.size >= r.size && r.bytes&^e.bytes == 0 && r.p != nil
 }
 
-func (t *repeats) put(r repeat) {
+// note reports whether all that is accessed was. Otherwise it is from now on.
+func (t *repeats) note(r repeat) bool {
 	if t.gone >= len(t.entries)/2 && len(t.entries) < mostRepeats {
-		size := 2 * len(t.entries)
-		if size == 0 {
-			size = fewestRepeats
-		}
-		*t = repeats{entries: make([]repeat, size)}
+		t.grow()
 	}
 	e := t.at(r.p)
-	switch {
-	case e.stamp != r.stamp:
-	case e.p == r.p:
-		r.bytes |= e.bytes
-		if e.size > r.size {
-			r.size = e.size
+	if e.stamp == r.stamp {
+		switch {
+		case e.p != r.p:
+			if e.p != nil {
+				t.gone++
+			}
+		case e.size >= r.size && r.bytes&^e.bytes == 0 && r.p != nil:
+			return true
+		default:
+			r.bytes |= e.bytes
+			if e.size > r.size {
+				r.size = e.size
+			}
 		}
-	case e.p != nil:
-		t.gone++
 	}
 	*e = r
+	return false
+}
+
+// grow makes a larger table, which is empty.
+func (t *repeats) grow() {
+	size := 2 * len(t.entries)
+	if size == 0 {
+		size = fewestRepeats
+	}
+	*t = repeats{entries: make([]repeat, size)}
 }
 
 func (t *repeats) drop(p unsafe.Pointer) {
@@ -102,12 +114,7 @@ func (t *repeats) drop(p unsafe.Pointer) {
 // hasRead reports whether what begins at p was read or written with a record, which stands for a
 // read now too. Otherwise this one is going to have it.
 func (g *G) hasRead(p unsafe.Pointer, size uintptr) bool {
-	r := repeatOf(p, size, g.epoch+atomic.LoadUint32(&era))
-	if g.reads.has(r) {
-		return true
-	}
-	g.reads.put(r)
-	return false
+	return g.reads.note(repeatOf(p, size, g.epoch+atomic.LoadUint32(&era)))
 }
 
 // hasLeave reports whether a write of what begins at p needs no record and no lock.
@@ -129,7 +136,7 @@ func (g *G) giveLeave(p unsafe.Pointer, size uintptr) {
 	i := sh.locate(p, wire.VarMemory)
 	l := &sh.entries[i]
 	sh.keys[i].repeater, l.stamp, l.known = g, g.stamp(), 0
-	g.writes.put(repeatOf(p, size, l.stamp))
+	g.writes.note(repeatOf(p, size, l.stamp))
 }
 
 // mayRepeat has the lock: a goroutine may be repeating a write of the location.

@@ -20,11 +20,11 @@ func record(t *testing.T) (log func() string) {
 	}
 	stepped, mainGoroutine.window = window{}, window{}
 	off, sealed, live = false, false, true
-	largest := largestWindow
-	largestWindow = 1 // so that records stand in the order in which they were written
+	largest, most := largestWindow, mostOfRun
+	largestWindow, mostOfRun, ranOn = 1, 0, 0 // so that records stand in the order in which they were written
 	t.Cleanup(func() {
 		exclusive, off, sealed, live = true, true, true, false
-		largestWindow = largest
+		largestWindow, mostOfRun = largest, most
 	})
 	return func() string {
 		var b strings.Builder

@@ -128,8 +128,11 @@ func unlockAll() {
 
 // locate has the lock. It is the number of the entry, which is good until the next call.
 func (sh *shard) locate(p unsafe.Pointer, kind wire.VarKind) int {
-	if i := sh.last; i < len(sh.keys) && sh.keys[i].p == p && sh.entries[i].kind == kind {
-		return i
+	for i := sh.last; i < len(sh.keys) && i <= sh.last+1; i++ { // where the last one was found, or beside it
+		if sh.keys[i].p == p && sh.entries[i].kind == kind {
+			sh.last = i
+			return i
+		}
 	}
 	if len(sh.keys) == 0 {
 		sh.resize(fewest)

@@ -26,6 +26,7 @@ type window struct {
 	next, end uint32
 	size      uint32
 	part      uint32 // of which it is
+	ranOn     uint32 // accesses of runs that aren't counted yet
 }
 
 var (
@@ -63,6 +64,7 @@ func openLog(path string) error {
 	header = (*wire.Header)(unsafe.Pointer(&b[0]))
 	records = unsafe.Slice((*wire.Record)(unsafe.Pointer(&b[wire.Size])), count)
 	header.Magic = wire.Magic
+	atomic.StoreUint32(&ranOn, 0)
 	return nil
 }
 
@@ -106,7 +108,7 @@ func (w *window) refill() bool {
 		seal()
 		return false
 	}
-	if isFull(end) {
+	if isFull(end + atomic.LoadUint32(&ranOn)) {
 		atomic.StoreUint32(&full, 1)
 	}
 	w.next, w.end = end-w.size, end
@@ -128,7 +130,7 @@ func giveBack(from, to uint32) {
 // reserve is how many records of a run's only log are kept for the steps of one operation.
 func reserve() int { return len(records)/64 + 64 }
 
-// isFull reports whether the part that has so many records has to end. The rest is for the
+// isFull reports whether the part that has so many records, with those of runs, has to end. The rest is for the
 // operations that have begun.
 func isFull(count uint32) bool {
 	return partRecords > 0 && int(count) > len(records)-len(records)/8
@@ -147,7 +149,7 @@ func makeRoom() {
 	case sealed:
 	case partRecords > 0 && atomic.LoadUint32(&full) != 0:
 		nextPart()
-	case partRecords == 0 && int(atomic.LoadUint32(&header.Records)) > len(records)-reserve():
+	case partRecords == 0 && int(atomic.LoadUint32(&header.Records)+atomic.LoadUint32(&ranOn)) > len(records)-reserve():
 		seal()
 	}
 }

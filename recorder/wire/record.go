@@ -7,7 +7,7 @@ package wire
 const Size = 32
 
 // Magic is the first word of a log.
-const Magic = 0x676f7265632d3035 // "gorec-05"
+const Magic = 0x676f7265632d3036 // "gorec-06"
 
 // Newest is the newest version of a trace.
 const Newest = 2
@@ -40,7 +40,7 @@ type Record struct {
 	Site      uint32 // where in the source; sites are numbered over all packages
 	OtherSite uint32 // of a meet: where the receiver stands; of a go or an access: the number of its stack
 	Goroutine uint32 // 0 is main
-	Other     uint32 // of a go: who is started; of a meet: the receiver
+	Other     uint32 // of a go: who is started; of a meet: the receiver; of an access: below
 	Op        Op
 	Kind      uint8
 	Count     uint16
@@ -52,7 +52,8 @@ type Op uint8
 // The fields that a record has beside Goroutine and Site stand behind its Op. The records
 // stand in the order in which the operations were done, but for those of variables: such a one
 // was done behind as many others as its Value says. The Count of a Read or a Write is 0, or has
-// a bit for each byte of the variable that it is about.
+// a bit for each byte of the variable that it is about; where Other isn't 0, so many variables with
+// the numbers behind Object are accessed too.
 const (
 	None            Op = iota // nothing was written here
 	DeclareVar                // Object; Value: the offset in what the site names; Kind: a VarKind
@@ -61,8 +62,8 @@ const (
 	DeclareOnce               // Object
 	Go                        // Other; Kind: a GoKind
 	Exit                      //
-	Read                      // Object, Value, Count
-	Write                     // Object, Value, Count
+	Read                      // Object, Value, Count, Other
+	Write                     // Object, Value, Count, Other
 	AtomicRead                // Object
 	AtomicWrite               // Object
 	Send                      // Object, Value: the number of the send

@@ -72,7 +72,7 @@ pub(crate) fn refusals<T: AllocGlobal + Threads + Wait + Sync, C: Growing>(
     call: C,
 ) -> Option<u64> {
     let mut refusals = 0u64;
-    for nth in 1..96u64 {
+    for nth in 1..512u64 {
         match run(rt, call, nth) {
             Outcome::Refused => refusals = refusals.saturating_add(1),
             Outcome::DoneWithout => {}

@@ -3,8 +3,8 @@
 use crate::calls::{Growing, Reply, assert_each, refusals, refused_if, right_if};
 use race_records::{Sink, Source};
 use race_tool::{
-    CheckOptions, RunOptions, run_check, run_draw, run_edges, run_race, run_run, run_witness,
-    status,
+    CheckOptions, PredictOptions, RunOptions, run_certify, run_check, run_draw, run_edges,
+    run_predict, run_race, run_run, run_witness, status,
 };
 use refusing_heap::RefusingHeap;
 use std::alloc::{Allocator, Global};
@@ -33,11 +33,18 @@ enum Engine {
     Witness,
     /// As an SVG document or not.
     Draw(bool),
+    /// Of a trace that hides a race, in turned orders too or not.
+    Predict(bool),
+    Certify,
 }
 
 // A goroutine, a variable and a race.
 const TRACE: &[u8] =
     b"gotrace 1\ngoroutine w\nvar x\ngo main w p\nwrite main x 1 p\nread w x 1 p\n";
+
+// Its race is hidden by the order of two critical sections.
+const HIDDEN: &[u8] =
+    b"gotrace 1\ngoroutine w\nmutex m\nvar x\ngo main w p\nwrite main x 1 p\nlock main m p\nunlock main m p\nlock w m p\nunlock w m p\nread w x 1 p\n";
 
 // An event that breaks a rule, others, and a faulty line behind them.
 const FAULTY: &[u8] =
@@ -128,9 +135,24 @@ const SHOWN: Ending = (
     Written::One(b"3 read w x\n2 write main x\nwitness: 2 accesses\n"),
 );
 
-const DRAWN: Ending = (status::CLEAN, Written::Drawing(392));
+const DRAWN: Ending = (status::CLEAN, Written::Drawing(339));
 
-const DRAWN_AS_SVG: Ending = (status::CLEAN, Written::Drawing(1353));
+const DRAWN_AS_SVG: Ending = (status::CLEAN, Written::Drawing(1725));
+
+const PREDICTED: Ending = (
+    status::RACES,
+    Written::One(
+        b"clean: 7 events, 2 accesses\npredicted race on x: write by main at p (event 2), read by w at p (event 7)\npredicted: 1\n",
+    ),
+);
+
+// The section of main isn't needed for the two accesses.
+const CERTIFIED: Ending = (
+    status::CLEAN,
+    Written::One(
+        b"gotrace 1\ngoroutine w\nmutex m\nvar x\ngo main w p\nlock w m p\nunlock w m p\nwrite main x 1 p\nread w x 1 p\n",
+    ),
+);
 
 // Gives its bytes, five a read.
 #[derive(Drop)]
@@ -185,6 +207,7 @@ fn run<R: Threads + Wait + Sync, A: Allocator + Copy + Send>(
     output: &mut [u8],
 ) -> u8 {
     let mut trace = Source::new(TRACE);
+    let mut hidden = Source::new(HIDDEN);
     let mut program = Source::new(PROGRAM);
     let mut sink = Sink::new(output);
     match engine {
@@ -203,6 +226,11 @@ fn run<R: Threads + Wait + Sync, A: Allocator + Copy + Send>(
         }
         Engine::Witness => run_witness(alloc, &mut trace, &mut sink, "x"),
         Engine::Draw(svg) => run_draw(alloc, &mut trace, &mut sink, None, svg),
+        Engine::Predict(turned) => {
+            let options = PredictOptions { most: 1, turned };
+            run_predict(alloc, &mut hidden, &mut sink, &options)
+        }
+        Engine::Certify => run_certify(alloc, &mut hidden, &mut sink, "x", false),
     }
 }
 
@@ -236,8 +264,9 @@ impl Growing for Row {
 // log of each of a run's two goroutines takes three. A judged run takes what the run takes, and then what its judge does.
 // Workers take a copy of the declarations besides. A witness takes four lists more for another replay, one for the clocks of
 // each of three walks, and one for its order. A drawing takes what the judge by one shard takes, six lists for its edges, one
-// for the clocks of a walk, and one of layouts; a layout takes what is noted for its way, the way, its arrows, and its rows,
-// which ask again for less; and its text is made in two.
+// for the clocks of a walk, and one of pictures; a picture takes what is noted for its way, the way, its strands, its columns,
+// and its rows, which ask again for less; each of the three rows takes its strokes; and its text is made in two lists. An SVG
+// document is a list more, which grows three times.
 static ENGINES: [(Row, u64); 14] = [
     (Row(Engine::Check(Judging::Shards(1)), CHECKED), 23),
     (Row(Engine::Check(Judging::Shards(2)), CHECKED), 25),
@@ -251,8 +280,8 @@ static ENGINES: [(Row, u64); 14] = [
     (Row(RACE_BY_TWO, RACED_BY_WORKERS), 73),
     (Row(Engine::Race(None, Judging::Plain), RACED), 60),
     (Row(Engine::Witness, SHOWN), 32),
-    (Row(Engine::Draw(false), DRAWN), 37),
-    (Row(Engine::Draw(true), DRAWN_AS_SVG), 37),
+    (Row(Engine::Draw(false), DRAWN), 41),
+    (Row(Engine::Draw(true), DRAWN_AS_SVG), 45),
 ];
 
 const RACE_BY_TWO: Engine = Engine::Race(Some(2), Judging::Shards(2));
@@ -274,6 +303,20 @@ static BESIDE: [Row; 4] = [
 #[test]
 fn engines_that_read_beside(rt: HostRuntime) {
     for row in &BESIDE {
+        assert!(rt; refusals(&rt, *row).is_some());
+    }
+}
+
+// How many lists a search takes is its own matter.
+static SEARCHES: [Row; 3] = [
+    Row(Engine::Predict(false), PREDICTED),
+    Row(Engine::Predict(true), PREDICTED),
+    Row(Engine::Certify, CERTIFIED),
+];
+
+#[test]
+fn engines_that_search(rt: HostRuntime) {
+    for row in &SEARCHES {
         assert!(rt; refusals(&rt, *row).is_some());
     }
 }

@@ -12,6 +12,8 @@ mod faults;
 #[cfg(test)]
 mod legal;
 #[cfg(test)]
+mod predict;
+#[cfg(test)]
 mod records;
 #[cfg(test)]
 mod rows;

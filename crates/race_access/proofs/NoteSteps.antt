@@ -37,8 +37,11 @@ module _ (caps : ℕ → ℕ) (events : List Event) (x : ℕ) (touched : List To
           }
 
   -- so are both of two
-  pub notes_are : (noted : Option (ReportedAccess × ReportedAccess)) → AreNotedIn touched noted → (m n : ReportedAccess) → noted ≡ Some (m, n) → IsNoteOf events m × IsNoteOf events n
+  pub notes_are : (noted : Option (ReportedAccess × ReportedAccess)) → AreNotedIn touched noted → (m n : ReportedAccess) → noted ≡ Some (m, n)
+      → IsNoteOf events m × IsNoteOf events n
   notes_are None are m n is = cc
   notes_are (Some (a, b)) are m n is =
       let pair : ◌≡◌ {A = ReportedAccess × ReportedAccess} (a, b) (m, n) = cc in
-      (subst (IsNoteOf events) (ap (λ (p : ReportedAccess × ReportedAccess). p.0) pair) (note_is a are.0), subst (IsNoteOf events) (ap (λ (p : ReportedAccess × ReportedAccess). p.1) pair) (note_is b are.1))
+      let first = subst (IsNoteOf events) (ap (λ (p : ReportedAccess × ReportedAccess). p.0) pair) (note_is a are.0) in
+      let second = subst (IsNoteOf events) (ap (λ (p : ReportedAccess × ReportedAccess). p.1) pair) (note_is b are.1) in
+      (first, second)

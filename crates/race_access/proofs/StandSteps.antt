@@ -131,3 +131,11 @@ stands_reports kept touched stands = go kept.pair stands.holds
     go : (pair : Option (ℕ × ℕ)) → HoldsBy touched kept.write kept.reads pair → IsReported touched pair
     go None holds = holds.free
     go (Some (i, j)) holds = holds
+
+-- what the code notes of a pair is what is noted of it
+pub stands_noted : (touched : List Touch) {a b m n : ReportedAccess} → a ≡ m → b ≡ n
+    → StandsFor (record { pair = Some (m.at, n.at); noted = Some (m, n); write = no_access; reads = [] }) touched
+    → StandsFor (record { pair = Some (a.at, b.at); noted = Some (a, b); write = no_access; reads = [] }) touched
+stands_noted touched {a} {b} {m} {n} first second stands =
+    subst (λ (y : ReportedAccess). StandsFor (record { pair = Some (a.at, y.at); noted = Some (a, y); write = no_access; reads = [] }) touched) (sym second)
+    (subst (λ (x : ReportedAccess). StandsFor (record { pair = Some (x.at, n.at); noted = Some (x, n); write = no_access; reads = [] }) touched) (sym first) stands)

@@ -1,5 +1,6 @@
 pub mod ClockLists
 pub mod JoinLemmas
+pub mod FillLemmas
 pub mod QueueSteps
 pub mod ChannelSteps
 pub mod LockSteps

@@ -5,8 +5,8 @@ use Rattle.std.specs.{Option.option_map, String.string_bytes, declared.{io.{Erro
 use Rattle.clap.specs.declared.error.kind.ErrorKind.{ErrorKind}
 use Rattle.race_records.specs.declared.{source.Source.Source, sink.Sink.Sink}
 use Rattle.race_command.specs.{declared.command.Request.Request, Request.is_in_limits}
-use Rattle.race_tool.specs.{Draw.Draws, Edges.Lists, Finding.Checks, Options.picks_asked, Race.Judges, Run.Runs}
-use Rattle.race_tool.specs.Witness.{Shows}
+use Rattle.race_tool.specs.{Draw.Draws, Edges.Lists, Finding.Checks, Options.picks_asked, Predict.{Certifies, Predicts}}
+use Rattle.race_tool.specs.{Race.Judges, Run.Runs, Witness.Shows}
 use Rattle.std.specs.declared.io.ErrorKind.TheVariants as io
 use Rattle.clap.specs.declared.error.kind.ErrorKind.TheVariants as kind
 use Rattle.race_tool.specs.declared.status.TheConstants as status
@@ -24,6 +24,10 @@ Does (Request.Witness name) remaining contents source source_now sink sink_now a
     Shows Global (string_bytes name) remaining contents source source_now sink sink_now answer
 Does (Request.Draw name svg) remaining contents source source_now sink sink_now answer =
     Draws Global (option_map string_bytes name) svg remaining contents source source_now sink sink_now answer
+Does (Request.Predict options) remaining contents source source_now sink sink_now answer =
+    Predicts Global options.most remaining contents source source_now sink sink_now answer
+Does (Request.Certify name turned) remaining contents source source_now sink sink_now answer =
+    Certifies Global (string_bytes name) remaining contents source source_now sink sink_now answer
 
 -- the status where the words ask for no work: help or the version was printed or couldn't be, memory was refused, or else they are at fault
 abbrev pub IsAnswerTo : ErrorKind → ℕ → Type 0

@@ -6,11 +6,14 @@ ghost use Rattle.race_command.specs.Request.{is_in_limits};
 use crate::drawing::{draw, drawn_variable};
 use crate::help;
 use crate::number::{number_in, picks_in};
+use crate::predicting::predict;
 use crate::showing::{shown_variable, witness};
 use clap::error::ErrorKind;
 use clap::{Arg, ArgAction, ArgMatches, Command, Error};
 use race_records::MAX_EVENTS;
-use race_tool::{CheckOptions, MAX_BLOCK, MAX_SHARDS, MAX_WORKERS, RunOptions};
+use race_tool::{
+    CheckOptions, MAX_BLOCK, MAX_PREDICTED, MAX_SHARDS, MAX_WORKERS, PredictOptions, RunOptions,
+};
 use std::alloc::{AllocError, Global};
 use std::convert::AsStr;
 
@@ -29,6 +32,10 @@ pub(crate) enum Request {
     Witness(String),
     /// Draw the race on the variable of this name, or each race, of the trace on standard input; as an SVG document or not.
     Draw(Option<String>, bool),
+    /// Predict races of other runs of the goroutines of the trace on standard input.
+    Predict(PredictOptions),
+    /// Show a predicted race on the variable of this name of the trace on standard input; in turned orders or not.
+    Certify(String, bool),
 }
 
 /// A command that has numbers for options.
@@ -37,6 +44,7 @@ enum Numbered {
     Check,
     Run,
     Race,
+    Predict,
 }
 
 impl Numbered {
@@ -45,6 +53,7 @@ impl Numbered {
             Numbered::Check => check(alloc),
             Numbered::Run => run(alloc),
             Numbered::Race => race(alloc),
+            Numbered::Predict => predict(alloc),
         }
     }
 
@@ -91,6 +100,9 @@ fn request_in(alloc: Global, matches: &ArgMatches<'_>) -> Result<Request, Error>
         let name = drawn_variable(alloc, given)?;
         return Ok(Request::Draw(name, given.get_flag("svg")));
     }
+    if let Some(given) = matches.subcommand_matches("predict") {
+        return predict_request(alloc, given);
+    }
     match matches.subcommand_matches("edges") {
         Some(_) => Ok(Request::Edges),
         None => Err(no_command(alloc)?),
@@ -112,7 +124,8 @@ fn gorace<'a>(alloc: Global) -> Result<Command<'a>, AllocError> {
     let command = with_subcommand(command, run(alloc))?;
     let command = with_subcommand(command, race(alloc))?;
     let command = with_subcommand(command, witness(alloc))?;
-    with_subcommand(command, draw(alloc))
+    let command = with_subcommand(command, draw(alloc))?;
+    with_subcommand(command, predict(alloc))
 }
 
 // The command, with this one below it.
@@ -228,6 +241,22 @@ fn check_options(
         block: limited(alloc, command, given, "block", MAX_BLOCK)?.unwrap_or(usual.block),
         plain: given.get_flag("plain"),
     })
+}
+
+// Which races of other runs are asked for: of each variable, or with a name the one on it.
+fn predict_request(alloc: Global, given: &ArgMatches<'_>) -> Result<Request, Error>
+    ensures { IfOk result (λ request. IsTrue (is_in_limits request)) }
+{
+    let turned = given.get_flag("turned");
+    match given.get_str("VAR") {
+        Some(name) => Ok(Request::Certify(String::from_str(alloc, name)?, turned)),
+        None => {
+            let usual = PredictOptions::default();
+            let most = limited(alloc, Numbered::Predict, given, "most", MAX_PREDICTED)?;
+            let most = most.unwrap_or(usual.most as usize) as u32;
+            Ok(Request::Predict(PredictOptions { most, turned }))
+        }
+    }
 }
 
 // How a program is run, as the command's words say.

@@ -2,7 +2,7 @@
 
 pub(crate) const ABOUT: &str = "Judges recorded runs of goroutines by The Go Memory Model";
 
-pub(crate) const VERSION: &str = "0.1.0 (proved with rattle-kit-13f, logic dac8208d650f15bf)";
+pub(crate) const VERSION: &str = "0.1.0 (proved with rattle-kit-13b, logic dac8208d650f15bf)";
 
 pub(crate) const AFTER_HELP: &str = "\
 'gorace check --help' says what a trace is, with an example, and what the statuses mean;
@@ -128,6 +128,61 @@ more than 2,000 events no edge is drawn.
 Statuses:
   0   it is drawn, or is a clean trace that has no chart, and told
   14  the name is that of no variable with a race
+  1   an event that breaks a rule of traces; its number, and the rule
+  2   not a trace; the line at fault and why
+  3   usage
+  4   memory was refused
+  5   reading or writing failed";
+
+pub(crate) const PREDICT_ABOUT: &str =
+    "Reads a trace from standard input and finds races of other runs";
+
+pub(crate) const PREDICT_USAGE: &str = "gorace predict [VAR] [--turned] [--most N] < TRACE";
+
+pub(crate) const PREDICT_HELP: &str = "\
+A run may be clean by luck: here main locks first, and so its write is ordered
+before w's read.
+
+  gotrace 1
+  goroutine w
+  mutex m
+  var x
+  go main w a.go:3
+  write main x 1 a.go:4
+  lock main m a.go:5
+  unlock main m a.go:6
+  lock w m a.go:9
+  unlock w m a.go:10
+  read w x 1 a.go:11
+
+Had w locked first, nothing would order them. Behind the report of a check this
+finds:
+
+  clean: 7 events, 2 accesses
+  predicted race on x: write by main at a.go:4 (event 2), read by w at a.go:11 (event 7)
+  predicted: 1
+
+With VAR it writes the trace of such a run, which ends with the two accesses:
+
+  go main w a.go:3
+  lock w m a.go:9
+  unlock w m a.go:10
+  write main x 1 a.go:4
+  read w x 1 a.go:11
+
+'gorace check' finds a race on VAR in it, and 'gorace draw' draws it. In that run
+each goroutine does what it did in the recorded one, up to some point, and is
+told the same; of the last two events a read may find another value. A program
+that knows more than its trace, as by a clock, may have no such run.
+
+Not all such races are found. Without --turned what is done of the recorded
+events stays in the recorded order. Where the search takes too many steps, a line
+'not searched: N variables' says how many variables are left.
+
+Statuses:
+  0   no race and none predicted; with VAR: the trace of the other run is written
+  66  the trace has races, or some are predicted
+  14  no race on the variable is predicted, or the name is that of no variable
   1   an event that breaks a rule of traces; its number, and the rule
   2   not a trace; the line at fault and why
   3   usage

@@ -5,6 +5,7 @@ mod command;
 mod drawing;
 mod help;
 mod number;
+mod predicting;
 mod program;
 mod showing;
 

@@ -11,7 +11,10 @@ use crate::command::{Request, parse};
 use clap::Error;
 use clap::error::ErrorKind;
 use race_records::{Sink, Source};
-use race_tool::{run_check, run_draw, run_edges, run_race, run_run, run_witness, status};
+use race_tool::{
+    run_certify, run_check, run_draw, run_edges, run_predict, run_race, run_run, run_witness,
+    status,
+};
 use std::alloc::Global;
 use std::env::Args;
 use std::io;
@@ -24,8 +27,8 @@ use std::thread::Threads;
 ///
 /// A check ends with the status that `run_check` answers, a listing of edges with that of
 /// `run_edges`, a run with that of `run_run`, a judged run with that of `run_race`, a witness with that of
-/// `run_witness`, a drawing with that of `run_draw`. Help and the
-/// version end with 0, or with 5 where they can't be printed. Words that are at fault or aren't text
+/// `run_witness`, a drawing with that of `run_draw`, predictions with that of `run_predict`, and the run that
+/// shows one with that of `run_certify`. Help and the version end with 0, or with 5 where they can't be printed. Words that are at fault or aren't text
 /// end with 3, of which a line on standard error tells, and want of memory for them with 4.
 ///
 /// Several shards and several workers are threads, for which the call waits. So what is promised holds
@@ -36,8 +39,8 @@ pub fn run<T: AllocGlobal + Print + Eprint + Threads + Wait + Sync, R: Read, W: 
     source: &mut Source<R>,
     sink: &mut Sink<W>,
 ) -> ExitCode
-    // The input is checked, its edges are listed, a race of it is shown, its races are drawn, it is run, or it is run and judged,
-    // or the words ask for none of these, and nothing is read or written.
+    // The input is checked, its edges are listed, a race of it is shown, its races are drawn, races of other runs are predicted or one of
+    // them is shown, it is run, or it is run and judged, or the words ask for none of these, and nothing is read or written.
     ensures words { IfOk args (λ words.
         Ends R.remaining W.contents source.old source.new sink.old sink.new (exit_status result)) }
 
@@ -104,6 +107,10 @@ fn answer_request<T: AllocGlobal + Print + Eprint + Threads + Wait + Sync, R: Re
             Request::Race(run, check) => run_race(rt, rt.alloc(), source, sink, &run, &check),
             Request::Witness(name) => run_witness(rt.alloc(), source, sink, name.as_str()),
             Request::Draw(name, svg) => draw(rt.alloc(), source, sink, &name, svg),
+            Request::Predict(options) => run_predict(rt.alloc(), source, sink, &options),
+            Request::Certify(name, turned) => {
+                run_certify(rt.alloc(), source, sink, name.as_str(), turned)
+            }
         },
         Err(error) => print(rt, &error),
     }

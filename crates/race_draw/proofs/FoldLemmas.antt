@@ -1,4 +1,4 @@
--- A text is folded byte by byte, and its longest line is found so.
+-- A text is folded byte by byte, its longest line is found so, and a document is put in pieces.
 use Rattle.std.proofs.Common.{◌≡◌, if◌then◌else◌, ◌==◌, ℕ, ◌+◌, ◌<◌, max, Bool, List, ◌∷◌, ◌++◌, length, get_or, drop}
 use Rattle.std.proofs.{Common.{sym, ap, ◌∙◌, append_assoc}, lemmas.List.at_drop_more}
 use Rattle.race_draw.specs.{declared.fold.Spot.Spot, Fold.{folded, folds, piece, next}, Svg.longest}
@@ -21,3 +21,11 @@ pub longest_more : (text : List ℕ) (i d column : ℕ) → i < length text
     → longest column (drop i text)
     ≡ (if get_or text i d == 10 then max column (longest 0 (drop (i + 1) text)) else longest (column + 1) (drop (i + 1) text))
 longest_more text i d column less = at_drop_more (longest column) text i d less
+
+-- three pieces
+pub three_put : (out one two three first second last first_is last_is : List ℕ) → one ≡ out ++ first → two ≡ one ++ second → three ≡ two ++ last
+    → first ≡ first_is → last ≡ last_is → three ≡ out ++ (first_is ++ (second ++ last_is))
+three_put out one two three first second last first_is last_is put more all same end =
+    let pieces : two ++ last ≡ ((out ++ first) ++ second) ++ last = ap (λ l. l ++ last) (more ∙ ap (λ l. l ++ second) put) in
+    all ∙ pieces ∙ append_assoc (out ++ first) second last ∙ append_assoc out first (second ++ last)
+    ∙ (λ i. out ++ (same i ++ (second ++ end i)))

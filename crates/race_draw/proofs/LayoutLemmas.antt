@@ -1,30 +1,15 @@
 -- What is laid out of a race has the trace's numbers, so it can be drawn.
-use Rattle.std.proofs.Common.{◌≡◌, if◌then◌else◌, ℕ, zero, suc, ◌+◌, ◌<◌, ◌≤◌, Bool, true, false, List, [], ◌∷◌, ◌++◌}
-use Rattle.std.proofs.Common.{length, All, get_or, Option, Some, None, IfSome, slice_get, inl, inr, sym, subst, ap, ◌∙◌}
-use Rattle.std.proofs.{Common.arith, lemmas.Option.{slice_get_within, slice_get-get_or}}
-use Rattle.std.specs.List.{filter, range_with_len}
+use Rattle.std.proofs.Common.{◌≡◌, ℕ, ◌+◌, ◌<◌, List, [], ◌∷◌, ◌++◌, length, All, get_or, Option, Some, None, IfSome, slice_get}
+use Rattle.std.proofs.{Common.{inl, inr, sym, subst, ap, ◌∙◌, arith}, lemmas.Option.{slice_get_within, slice_get-get_or}}
 use Rattle.race_model.proofs.Indexes.{at_same, push_at}
-use Rattle.race_records.specs.Events.{TraceState, IsTrace}
+use Rattle.race_records.specs.{declared.{event.Event.Event, kind.Kind.Kind}, Declarations.count_of, Events.{TraceState, IsTrace}}
 use Rattle.race_verdict.specs.{declared.races.Race.Race, Races.race_of, Traces.capacities}
-use Rattle.race_verdict.proofs.RangeLemmas.{race_declared}
+use Rattle.race_verdict.proofs.RangeLemmas.{race_declared, range_in_trace}
 use Rattle.race_edges.specs.{declared.edge_list.Edge.Edge, Edges.IsEdge}
 use Rattle.race_report.specs.Printable.{IsOf}
-use Rattle.race_shards.specs.{Seen.IsLastSeen, Witness.RacesInOrder}
-use Rattle.race_draw.specs.{declared.arrow.Arrow.Arrow, Layout.{LayoutState, IsLayoutOf, AreListed, is_shown, rows_of}}
-use Rattle.race_draw.specs.Text.{CanBeDrawn}
-
--- so is a list with one number in front, or without it
-or_first : (m a d : ℕ) → a < m → (rest : List ℕ) → ((i : ℕ) → i < length rest → get_or rest i d < m) → (b : Bool) (i : ℕ)
-    → i < length (if b then a ∷ rest else rest) → get_or (if b then a ∷ rest else rest) i d < m
-or_first m a d small rest all true zero less = small
-or_first m a d small rest all true (suc i) less = all i (omega (arith, less))
-or_first m a d small rest all false i less = all i less
-
--- each number that is picked from a range is in it
-pub below : (f : ℕ → Bool) (a n m : ℕ) → a + n ≤ m → (i d : ℕ) → i < length (filter f (range_with_len a n)) → get_or (filter f (range_with_len a n)) i d < m
-below f a zero m le i d less = absurd (omega arith)
-below f a (suc n) m le i d less =
-    or_first m a d (omega (arith, le)) (filter f (range_with_len (a + 1) n)) (λ k within. below f (a + 1) n m (omega (arith, le)) k d within) (f a) i less
+use Rattle.race_shards.specs.{Seen.{IsLastSeen, who_at}, Witness.RacesInOrder}
+use Rattle.race_draw.specs.{Layout.{LayoutState, IsLayoutOf, IsPictureOf, AreListed, missing}, Picture.PictureState, Text.CanBeDrawn}
+use Rattle.race_draw.proofs.PictureLemmas.{race_printable}
 
 module _ (trace : TraceState) (is_trace : IsTrace trace) (r : Race) (races : RacesInOrder (capacities trace) trace.events r) where
   race_is_of : IsOf trace (race_of r)
@@ -40,16 +25,23 @@ module _ (trace : TraceState) (is_trace : IsTrace trace) (r : Race) (races : Rac
   seen_within None none = tt
   seen_within (Some p) last = slice_get_within trace.events p last.part.0 last.part.1
 
+  who_within : (i : ℕ) (e : Event) → slice_get trace.events i ≡ Some e → who_at trace.events i < count_of Kind.Goroutine trace.decls.declarations
+  who_within i e at =
+      subst (λ (o : Option Event). (elim o [ Some e ↦ e.who | None ↦ 0 ]) < count_of Kind.Goroutine trace.decls.declarations) (sym at)
+      (range_in_trace trace i e is_trace at).0
+
   -- by the parts of a layout
-  pub parts_can_be_drawn : (seen : Option ℕ) (arrows shown : List Arrow) (rows : List ℕ) (n : ℕ) → n ≡ length trace.events
-      → IsLastSeen (capacities trace) trace.events r seen → rows ≡ rows_of n shown
-      → CanBeDrawn trace (record { race = r; seen = seen; arrows = arrows; rows = rows })
-  parts_can_be_drawn seen arrows shown rows n same last are = record {
-    race = race_is_of;
-    seen = seen_within seen last;
-    rows = subst (All (λ k. k < length trace.events)) (sym are)
-        (λ i d less. below (is_shown shown) 0 n (length trace.events) (omega (arith, same)) i d less);
-  }
+  pub parts_can_be_drawn : (seen : Option ℕ) (edges way : List Edge) (m : Edge) (p : PictureState) → m ≡ missing trace.events r
+      → IsLastSeen (capacities trace) trace.events r seen → IsPictureOf trace edges m way p → CanBeDrawn trace (record { race = r; seen = seen; picture = p })
+  parts_can_be_drawn seen edges way m p same last is =
+      let conflict = races.race.conflict in
+      record {
+        race = race_is_of;
+        seen = seen_within seen last;
+        picture = race_printable trace edges (missing trace.events r) way p
+            (who_within r.first conflict.1.0 conflict.1.1) (who_within r.second conflict.2.0 conflict.2.1)
+            (subst (λ (e : Edge). IsPictureOf trace edges e way p) same is);
+      }
 
 -- one layout more
 pub laid_more : (trace : TraceState) (edges : List Edge) (races : List Race) (layouts : List LayoutState) (i : ℕ) (r : Race) (l : LayoutState)

@@ -1,4 +1,4 @@
 pub mod WaySteps
 pub mod FoldLemmas
-pub mod CleanLemmas
+pub mod PictureLemmas
 pub mod LayoutLemmas

@@ -1,7 +1,7 @@
 -- Small lists of edges, and what is drawn of them: src/examples.rt proves it.
 use Rattle.std.specs.{Prelude.{ℕ, true, List, [], ◌∷◌, map, Option}, List.range_with_len}
 use Rattle.race_edges.specs.declared.edge_list.Edge.{Edge}
-use Rattle.race_draw.specs.{declared.{clean.Strand.Strand, fold.Spot.Spot}, Clean.strands}
+use Rattle.race_draw.specs.{declared.{fold.Spot.Spot, picture.{Strand.Strand, Style.Style}}, Picture.strands_behind}
 
 -- the edge from what this goroutine does in this event to what that one does in that event
 abbrev pub edge : ℕ → ℕ → ℕ → ℕ → Edge
@@ -9,7 +9,7 @@ edge from_who from to_who to = record { from = from; from_who = from_who; to = t
 
 -- the lanes of edges
 abbrev pub lanes_of : List Edge → List (Option ℕ)
-lanes_of edges = map (λ (s : Strand). s.lane) (strands edges)
+lanes_of edges = map (λ (s : Strand). s.lane) (strands_behind Style.Plain [] edges)
 
 -- so many goroutines, main the first of them
 abbrev pub goroutines : ℕ → List ℕ

@@ -1,33 +1,29 @@
--- What is drawn of a race: arrows between events, and the events that they touch.
--- The first arrow is the one that is missing, from the first access to the second. Then come the way by which the second access got to know
+-- What is drawn of a race: strands between events, and the events that they touch.
+-- The first strand is the order that is missing, from the first access to the second. Then come the way by which the second access got to know
 -- of the last event that it has seen of the first one's goroutine; the next edge that leaves that goroutine behind its access; and the edges
 -- by which the two goroutines were started. (Our own; compare The Go Memory Model, "Memory Model": data race)
-use Rattle.std.specs.Prelude.{ℕ, ◌≡◌, ◌<◌, ◌≤◌, ◌⊎◌, ◌==◌, ◌&&◌, ◌||◌, not, nat_lt, Bool, List, [], ◌∷◌, ◌++◌, map}
+use Rattle.std.specs.Prelude.{ℕ, ◌≡◌, ◌<◌, ◌≤◌, ◌⊎◌, ◌==◌, ◌&&◌, ◌||◌, not, nat_lt, Bool, List, [], ◌∷◌, ◌++◌}
 use Rattle.std.specs.{Prelude.{length, slice_get, unwrap_or, Option, Some, None}, List.{filter, find, list_any}}
 use Rattle.std.specs.{List.range_with_len, Option.option_to_list}
-use Rattle.race_records.specs.{declared.event.Event.Event, Events.TraceState}
+use Rattle.race_records.specs.declared.{event.Event.Event, kind.Kind.Kind}
+use Rattle.race_records.specs.{Declarations.count_of, Events.TraceState}
 use Rattle.race_verdict.specs.{declared.races.Race.Race, Traces.capacities}
 use Rattle.race_edges.specs.declared.{fault.TheConstants.MAX_PLAIN_EVENTS, edge_list.Edge.Edge}
 use Rattle.race_edges.specs.Edges.{IsEdge, AreEdges}
 use Rattle.race_shards.specs.Seen.{who_at, IsLastSeen}
-use Rattle.race_draw.specs.declared.arrow.{Arrow.Arrow, Lane.Lane}
+use Rattle.race_draw.specs.{declared.picture.{Strand.Strand, Style.Style}, Picture.{PictureState, strands_behind, columns_of}}
 
--- what a printer draws: the race, the last event that the second access has seen of the first one's goroutine, the arrows, and the events that are shown
+-- what is printed: the race, the last event that the second access has seen of the first one's goroutine, and the picture
 pub record LayoutState : Type 0 where
   pub race : Race
   pub seen : Option ℕ
-  pub arrows : List Arrow
-  pub rows : List ℕ
+  pub picture : PictureState
 
 -- these are all edges of the trace, or none of one that is too long for them to be listed
 abbrev pub AreListed : TraceState → List Edge → Type 0
 AreListed trace edges =
     ((length trace.events ≤ MAX_PLAIN_EVENTS) × AreEdges (capacities trace) trace.events edges)
     ⊎ ((MAX_PLAIN_EVENTS < length trace.events) × (edges ≡ []))
-
--- the edge runs in the lane
-abbrev pub in_lane : Lane → Edge → Arrow
-in_lane lane edge = record { edge = edge; lane = lane }
 
 -- from the first access to the second: no edge, and the way that is missing
 abbrev pub missing : List Event → Race → Edge
@@ -71,23 +67,27 @@ is_on way e = list_any (λ w. w.from == e.from) way
 abbrev pub start_of : List Edge → List Edge → ℕ → List Edge
 start_of edges way g = filter (λ e. not (is_on way e)) (option_to_list (find (enters_inside g) edges))
 
--- all arrows
-abbrev pub arrows_of : List Edge → Edge → List Edge → List Arrow
-arrows_of edges m way =
-    in_lane Lane.Missing m ∷ map (in_lane Lane.Way) way ++ map (in_lane Lane.Next) (next_of edges m)
-    ++ map (in_lane Lane.Start) (start_of edges way m.from_who) ++ map (in_lane Lane.Start) (start_of edges way m.to_who)
+-- all of them, each in its lane
+abbrev pub others_of : List Edge → List Edge → Edge → List Edge
+others_of edges way m = next_of edges m ++ start_of edges way m.from_who ++ start_of edges way m.to_who
 
--- the arrow leaves event k, or enters it
-abbrev pub touches : ℕ → Arrow → Bool
-touches k a = (a.edge.from == k) || (a.edge.to == k)
+abbrev pub strands_of : List Edge → Edge → List Edge → List Strand
+strands_of edges m way =
+    strands_behind Style.Plain (strands_behind Style.Way (strands_behind Style.Missing [] (m ∷ [])) way) (others_of edges way m)
 
--- an arrow does
-abbrev pub is_shown : List Arrow → ℕ → Bool
-is_shown arrows k = list_any (touches k) arrows
+-- a strand leaves event k, or enters it
+abbrev pub is_shown : List Strand → ℕ → Bool
+is_shown strands k = list_any (λ s. (s.edge.from == k) || (s.edge.to == k)) strands
 
 -- the events that are shown, in order
-abbrev pub rows_of : ℕ → List Arrow → List ℕ
-rows_of events arrows = filter (is_shown arrows) (range_with_len 0 events)
+abbrev pub rows_of : ℕ → List Strand → List ℕ
+rows_of events strands = filter (is_shown strands) (range_with_len 0 events)
+
+-- the picture of a race, by these edges and this way
+pub record IsPictureOf (trace : TraceState) (edges : List Edge) (m : Edge) (way : List Edge) (p : PictureState) : Type 0 where
+  pub strands : p.strands ≡ strands_of edges m way
+  pub columns : p.columns ≡ columns_of (m.from_who ∷ m.to_who ∷ []) [] p.strands (count_of Kind.Goroutine trace.decls.declarations)
+  pub rows : p.rows ≡ rows_of (length trace.events) p.strands
 
 -- what is drawn of the race
 pub record IsLayoutOf (trace : TraceState) (edges : List Edge) (r : Race) (l : LayoutState) : Type 0 where
@@ -95,8 +95,7 @@ pub record IsLayoutOf (trace : TraceState) (edges : List Edge) (r : Race) (l : L
   pub seen : IsLastSeen (capacities trace) trace.events r l.seen
   pub way : List Edge
   pub is_way : IsWayShown (capacities trace) trace.events l.seen (missing trace.events r) way
-  pub arrows : l.arrows ≡ arrows_of edges (missing trace.events r) way
-  pub rows : l.rows ≡ rows_of (length trace.events) l.arrows
+  pub picture : IsPictureOf trace edges (missing trace.events r) way l.picture
 
 -- what is drawn of each race of a list, in order
 pub record AreLaidOut (trace : TraceState) (edges : List Edge) (races : List Race) (layouts : List LayoutState) : Type 0 where

@@ -1,10 +1,10 @@
+pub mod Picture
 pub mod Layout
-pub mod Cells
-pub mod Words
-pub mod Fold
-pub mod Text
-pub mod Svg
 pub mod Clean
+pub mod Words
 pub mod Strokes
-pub mod Chart
+pub mod Rows
+pub mod Fold
+pub mod Svg
+pub mod Text
 pub mod Examples

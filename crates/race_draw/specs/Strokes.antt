@@ -1,123 +1,92 @@
--- The rows of a clean trace's drawing, one for each event: four bytes for each column of goroutines, and three for each lane beside them.
-use Rattle.std.specs.Prelude.{ℕ, if◌then◌else◌, ◌==◌, ◌&&◌, ◌||◌, not, nat_lt, nat_le, min, max, Bool, false, List, []}
-use Rattle.std.specs.{Prelude.{◌∷◌, Some, None, is_some}, List.{find, list_any}}
-use Rattle.race_draw.specs.declared.{clean.Strand.Strand, strokes.Row.Row}
+-- The rows of a picture, four bytes for each track: in its middle what stands there, beside it the strokes to the tracks left and right. What is
+-- drawn of an order that is missing is stressed: 128 is added to its bytes.
+use Rattle.std.specs.Prelude.{ℕ, if◌then◌else◌, ◌==◌, ◌+◌, ◌&&◌, ◌||◌, nat_lt, nat_le, min, max, Bool, false, List, [], ◌∷◌, ◌++◌}
+use Rattle.std.specs.{Prelude.{Option, Some, None}, List.{find, flat_map}, Option.option_to_list}
+use Rattle.race_records.specs.{declared.event.Op.{Op, TheVariants.{Read, Write}}, Events.TraceState}
+use Rattle.race_shards.specs.Seen.{who_at}
+use Rattle.race_draw.specs.declared.{picture.{Strand.Strand, Style.Style, TheConstants.{MAX_COLUMNS, STRESS}}, strokes.Stroke.Stroke}
+use Rattle.race_draw.specs.Picture.{PictureState, column_of}
 
--- the strand is inside event k
-abbrev pub is_inside : ℕ → Strand → Bool
-is_inside k s = (s.edge.from == k) && (s.edge.to == k)
+-- an event: `R` or `W` an access, `o` any other
+abbrev pub mark_of : Op → ℕ
+mark_of (Read x v) = 82
+mark_of (Write x v) = 87
+mark_of _ = 111
 
--- and enters g's part of it
-abbrev pub enters_inside : ℕ → ℕ → Strand → Bool
-enters_inside k g s = (is_inside k s && (s.edge.to_who == g)) && not (s.edge.from_who == g)
+-- what a byte of a strand looks like: an order that is missing has dots for each line, and a way has `=`
+abbrev pub in_style : Style → ℕ → ℕ
+in_style Style.Missing byte = if byte == 45 || (byte == 43 || byte == 124) then 46 + STRESS else byte + STRESS
+in_style Style.Way byte = if byte == 45 then 61 else byte
+in_style Style.Plain byte = byte
 
--- the strand leaves event k or enters it
-abbrev pub turns_at : ℕ → Strand → Bool
-turns_at k s = (s.edge.from == k) || (s.edge.to == k)
+-- of a strand inside event k a stroke that points at the goroutine that it enters
+abbrev pub in_event : List ℕ → ℕ → Strand → Option Stroke
+in_event columns k s =
+    let from = column_of columns s.edge.from_who in
+    let to = column_of columns s.edge.to_who in
+    if s.edge.from == k then Some (record { low = min from to; high = max from to; tip = Some to; style = s.style }) else None
 
--- it does in this lane or further right
-abbrev pub turns_from : ℕ → ℕ → Strand → Bool
-turns_from k lane s = elim s.lane [ Some own ↦ nat_le lane own && turns_at k s | None ↦ false ]
+-- of one in a lane: a stroke to the lane where it leaves event k, one from there where it enters it, and one within the lane between
+abbrev pub in_lane : List ℕ → ℕ → Strand → ℕ → Option Stroke
+in_lane columns k s lane =
+    let from = column_of columns s.edge.from_who in
+    let to = column_of columns s.edge.to_who in
+    if s.edge.from == k then Some (record { low = from; high = lane; tip = None; style = s.style })
+    else if s.edge.to == k then Some (record { low = to; high = lane; tip = Some to; style = s.style })
+    else if nat_lt s.edge.from k && nat_lt k s.edge.to then Some (record { low = lane; high = lane; tip = None; style = s.style })
+    else None
 
--- it does in this lane
-abbrev pub turns_in : ℕ → ℕ → Strand → Bool
-turns_in k lane s = elim s.lane [ Some own ↦ (own == lane) && turns_at k s | None ↦ false ]
+-- of each; what has found no lane isn't drawn
+abbrev pub stroke_of : List ℕ → ℕ → Strand → Option Stroke
+stroke_of columns k s =
+    if s.edge.from == s.edge.to then in_event columns k s
+    else elim s.lane [ Some lane ↦ in_lane columns k s lane | None ↦ None ]
 
--- it enters event k by a lane
-abbrev pub enters_by_lane : ℕ → Strand → Bool
-enters_by_lane k s = is_some s.lane && (s.edge.to == k)
+-- the strokes in the row of event k, and the event itself
+abbrev pub strokes_at : TraceState → PictureState → ℕ → List Stroke
+strokes_at trace p k =
+    let who = column_of p.columns (who_at trace.events k) in
+    flat_map (λ s. option_to_list (stroke_of p.columns k s)) p.strands
+    ++ record { low = who; high = who; tip = None; style = Style.Plain } ∷ []
 
--- it goes by event k in the lane
-abbrev pub goes_by : ℕ → ℕ → Strand → Bool
-goes_by k lane s = elim s.lane [ Some own ↦ ((own == lane) && nat_lt s.edge.from k) && nat_lt k s.edge.to | None ↦ false ]
+-- the stroke leads over the gap left of the track
+abbrev pub covers : ℕ → Stroke → Bool
+covers track s = nat_lt s.low track && nat_le track s.high
 
--- of which goroutines it is, other than who
-abbrev pub other_of : Strand → ℕ → ℕ
-other_of s who = if s.edge.to_who == who then s.edge.from_who else s.edge.to_who
+abbrev pub gap : List Stroke → ℕ → ℕ
+gap strokes track = elim (find (covers track) strokes) [ Some s ↦ in_style s.style 45 | None ↦ 32 ]
 
--- the goroutine that takes part beside who in event k, or who itself
-abbrev pub other_at : List Strand → ℕ → ℕ → ℕ
-other_at strands k who = elim (find (is_inside k) strands) [ Some s ↦ other_of s who | None ↦ who ]
+abbrev pub is_tip : ℕ → Stroke → Bool
+is_tip track s = elim s.tip [ Some tip ↦ tip == track | None ↦ false ]
 
--- a strand does so
-abbrev pub is_met : List Strand → ℕ → ℕ → Bool
-is_met strands k g = list_any (enters_inside k g) strands
+-- it points at the track from the left, or from the right
+abbrev pub points_right : ℕ → Stroke → Bool
+points_right track s = is_tip track s && nat_lt s.low track
 
-abbrev pub has_turn_from : List Strand → ℕ → ℕ → Bool
-has_turn_from strands k lane = list_any (turns_from k lane) strands
+abbrev pub points_left : ℕ → Stroke → Bool
+points_left track s = is_tip track s && nat_lt track s.high
 
-abbrev pub has_turn : List Strand → ℕ → ℕ → Bool
-has_turn strands k lane = list_any (turns_in k lane) strands
+-- an arrow's tip at the track, or what stands in the gap beside it
+abbrev pub left_of : List Stroke → ℕ → ℕ
+left_of strokes track = elim (find (points_right track) strokes) [ Some s ↦ in_style s.style 62 | None ↦ gap strokes track ]
 
-abbrev pub has_entry : List Strand → ℕ → Bool
-has_entry strands k = list_any (enters_by_lane k) strands
+abbrev pub right_of : List Stroke → ℕ → ℕ
+right_of strokes track = elim (find (points_left track) strokes) [ Some s ↦ in_style s.style 60 | None ↦ gap strokes (track + 1) ]
 
-abbrev pub has_by : List Strand → ℕ → ℕ → Bool
-has_by strands k lane = list_any (goes_by k lane) strands
+-- it ends in the track: with the event's mark in a column, and in a lane with `+`, or `|` where it goes down
+abbrev pub ends_in : ℕ → Stroke → Bool
+ends_in track s = (s.low == track) || (s.high == track)
 
--- a column is named by its goroutine; all goroutines behind the last column share it
-abbrev pub column_of : ℕ → ℕ → ℕ
-column_of last g = min g last
+abbrev pub end_of : ℕ → ℕ → Stroke → ℕ
+end_of mark track s = if nat_lt track MAX_COLUMNS then mark else if s.low == s.high then 124 else 43
 
--- the row of event k, which is who's
-abbrev pub row_of : List Strand → ℕ → ℕ → ℕ → Row
-row_of strands last k who = record {
-  at = k;
-  who = column_of last who;
-  other = column_of last (other_at strands k who);
-  to_other = is_met strands k (other_at strands k who);
-  to_who = is_met strands k who;
-  turns = has_turn_from strands k 0;
-  entered = has_entry strands k;
-}
+-- where none ends, a goroutine's line, and in a lane what leads to those behind it
+abbrev pub line_in : List Stroke → ℕ → ℕ
+line_in strokes track = if nat_lt track MAX_COLUMNS then 124 else gap strokes (track + 1)
 
--- strokes lead from one part of the event to the other, and from the goroutine whose event it is to the lanes
-abbrev pub comes_from_left : Row → ℕ → Bool
-comes_from_left row c = (nat_lt (min row.who row.other) c && nat_le c (max row.who row.other)) || (row.turns && nat_lt row.who c)
+abbrev pub middle_of : List Stroke → ℕ → ℕ → ℕ
+middle_of strokes mark track =
+    elim (find (ends_in track) strokes) [ Some s ↦ in_style s.style (end_of mark track s) | None ↦ line_in strokes track ]
 
-abbrev pub goes_right : Row → ℕ → Bool
-goes_right row c = (nat_le (min row.who row.other) c && nat_lt c (max row.who row.other)) || (row.turns && nat_le row.who c)
-
--- an edge inside the event enters the column
-abbrev pub is_entered : Row → ℕ → Bool
-is_entered row c = (row.to_other && (c == row.other)) || (row.to_who && (c == row.who))
-
--- an edge enters it from the right
-abbrev pub is_entered_from_right : Row → ℕ → Bool
-is_entered_from_right row c = (row.entered && (c == row.who)) || (is_entered row c && nat_lt c (max row.who row.other))
-
--- the event is in the column
-abbrev pub is_marked : Row → ℕ → Bool
-is_marked row c = (c == row.who) || (c == row.other)
-
--- blank, a stroke, or an arrow's head
-abbrev pub left_of : Row → ℕ → ℕ
-left_of row c = if not (comes_from_left row c) then 32 else if is_entered row c then 62 else 45
-
-abbrev pub right_of : Row → ℕ → ℕ
-right_of row c = if not (goes_right row c) then 32 else if is_entered_from_right row c then 60 else 45
-
-abbrev pub end_of : Row → ℕ → ℕ
-end_of row c = if goes_right row c then 45 else 32
-
--- the event's mark `o`, or the goroutine's line
-abbrev pub middle_of : Row → ℕ → ℕ
-middle_of row c = if is_marked row c then 111 else 124
-
--- with what stands beside it
-abbrev pub column_cell : Row → ℕ → List ℕ
-column_cell row c = left_of row c ∷ middle_of row c ∷ right_of row c ∷ end_of row c ∷ []
-
--- a stroke to where a strand turns here or further right
-abbrev pub stroke_to : List Strand → ℕ → ℕ → ℕ
-stroke_to strands k lane = if has_turn_from strands k lane then 45 else 32
-
--- `+` where a strand turns, and `|` where one goes by
-abbrev pub lane_mark : List Strand → ℕ → ℕ → ℕ
-lane_mark strands k lane =
-    if has_turn strands k lane then 43
-    else if has_by strands k lane then 124
-    else stroke_to strands k lane
-
-abbrev pub lane_cell : List Strand → ℕ → ℕ → List ℕ
-lane_cell strands k lane = stroke_to strands k lane ∷ stroke_to strands k lane ∷ lane_mark strands k lane ∷ []
+abbrev pub cell : List Stroke → ℕ → ℕ → List ℕ
+cell strokes mark track = left_of strokes track ∷ middle_of strokes mark track ∷ right_of strokes track ∷ gap strokes (track + 1) ∷ []

@@ -1,92 +1,15 @@
 -- The text of drawings. Events are printed as the trace has them. A tab in it marks where the text of a line begins
 -- (Fold).
-use Rattle.std.specs.Prelude.{ℕ, if◌then◌else◌, ◌<◌, nat_lt, ◌==◌, ◌&&◌, ◌||◌, not, Bool, true, false, All}
-use Rattle.std.specs.Prelude.{List, [], ◌++◌, length, codes, Option, Some, None, IfSome}
-use Rattle.std.specs.List.{flat_map, list_any}
+use Rattle.std.specs.Prelude.{ℕ, ◌≡◌, if◌then◌else◌, ◌<◌, nat_lt, Bool, true, false, List, ◌++◌, length}
+use Rattle.std.specs.{Prelude.{codes, Option, Some, None, IfSome}, List.flat_map}
 use Rattle.race_records.specs.Events.{TraceState}
 use Rattle.race_text.specs.Text.{ended}
 use Rattle.race_verdict.specs.{Races.race_of, declared.races.Race.Race}
-use Rattle.race_edges.specs.declared.{fault.TheConstants.MAX_PLAIN_EVENTS, edge_list.Edge.Edge}
-use Rattle.race_report.specs.{Printable.IsOf, Report.{newline, access_word, race_line, races_line}}
-use Rattle.race_draw.specs.declared.{arrow.{Arrow.Arrow, Lane.Lane}, cells.{Column.Column, Line.Line}}
-use Rattle.race_draw.specs.{Layout.{LayoutState, missing}, Cells.{end_at, line_at, cell, lane_cell}}
-use Rattle.race_draw.specs.{Words.{event_text, name_at, op_at, aligned, number_in}, Fold.{folded, line_start}}
-
--- the cells of a line, and the number of its event
-unfoldable pub line_front : LayoutState → Line → List ℕ
-line_front l line =
-    cell line Column.First ++ cell line Column.Second ++ cell line Column.Other
-    ++ lane_cell l.arrows line Lane.Missing ++ lane_cell l.arrows line Lane.Start ++ lane_cell l.arrows line Lane.Way
-    ++ lane_cell l.arrows line Lane.Next ++ aligned l.rows line.at
-
--- the event itself, unless it stands on the line before
-abbrev pub line_end : TraceState → Line → List ℕ
-line_end trace line = if line.bare then newline else codes "  \t" ++ event_text trace line.at
-
-abbrev pub line_text : TraceState → LayoutState → Line → List ℕ
-line_text trace l line = line_front l line ++ line_end trace line
-
--- the line of the arrow, where it leaves event k or enters it
-abbrev pub end_text : TraceState → LayoutState → ℕ → Bool → Arrow → List ℕ
-end_text trace l k enters a =
-    if end_at a enters == k then line_text trace l (line_at (missing trace.events l.race) a enters (op_at trace.events k)) else []
-
--- a line for each arrow that leaves event k, or for each that enters it
-abbrev pub ends_text : TraceState → LayoutState → ℕ → Bool → List ℕ
-ends_text trace l k enters = flat_map (end_text trace l k enters) l.arrows
-
--- the lines of event k
-abbrev pub row_text : TraceState → LayoutState → ℕ → List ℕ
-row_text trace l k = ends_text trace l k false ++ ends_text trace l k true
-
--- the lines of all events that are shown
-abbrev pub rows_text : TraceState → LayoutState → List ℕ
-rows_text trace l = flat_map (row_text trace l) l.rows
-
--- another goroutine than the two
-abbrev pub is_other : Edge → ℕ → Bool
-is_other m g = not (g == m.from_who || g == m.to_who)
-
--- an arrow leaves or enters one
-abbrev pub has_others : Edge → List Arrow → Bool
-has_others m arrows = list_any (λ a. is_other m a.edge.from_who || is_other m a.edge.to_who) arrows
-
--- the head of the third column, where it is used
-abbrev pub others_head : Bool → List ℕ
-others_head true = ended (codes "   |       |       others")
-others_head false = []
-
--- an arrow of the way, or another edge
-abbrev pub is_of_way : Arrow → Bool
-is_of_way a = elim a.lane [ Lane.Way ↦ true | _ ↦ false ]
-
-abbrev pub is_other_edge : Arrow → Bool
-is_other_edge a = elim a.lane [ Lane.Start ↦ true | Lane.Next ↦ true | _ ↦ false ]
-
-abbrev pub has_way : List Arrow → Bool
-has_way arrows = list_any is_of_way arrows
-
-abbrev pub has_other_edge : List Arrow → Bool
-has_other_edge arrows = list_any is_other_edge arrows
-
--- there are both
-abbrev pub tells_apart : List Arrow → Bool
-tells_apart arrows = has_way arrows && has_other_edge arrows
-
--- what tells them apart
-abbrev pub legend : Bool → List ℕ
-legend true = ended (codes "   (=== is the way of what was seen, --- are other edges)")
-legend false = []
-
--- below them, where the edges of so many events aren't listed
-abbrev pub note_of_size : ℕ → List ℕ
-note_of_size events = if nat_lt MAX_PLAIN_EVENTS events then ended (codes "   (of more than 2,000 events no edge is drawn)") else []
-
--- the heads of the columns, each above its own
-unfoldable pub heads : TraceState → LayoutState → List ℕ
-heads trace l =
-    codes "\n   " ++ name_at trace l.race.first ++ codes "\n   |       " ++ name_at trace l.race.second ++ newline
-    ++ others_head (has_others (missing trace.events l.race) l.arrows) ++ legend (tells_apart l.arrows) ++ note_of_size (length trace.events)
+use Rattle.race_edges.specs.declared.fault.TheConstants.{MAX_PLAIN_EVENTS}
+use Rattle.race_report.specs.{Printable.IsOf, Report.{newline, access_word, race_line, races_line, report}}
+use Rattle.race_draw.specs.{Layout.{LayoutState, AreLayoutsOf}, Clean.{IsCleanPictureOf, has_chart}, Picture.PictureState}
+use Rattle.race_draw.specs.{Rows.{CanBePrinted, picture_text}, Words.{event_text, name_at, op_at, number_in}, Svg.in_form}
+use Rattle.race_model.specs.Verdict as model
 
 -- which event the first access is, and what the second one has seen of its goroutine
 unfoldable pub sentence_front : TraceState → Race → List ℕ
@@ -108,21 +31,41 @@ sentence_end trace r (Some p) = some_seen trace r p ++ event_text trace p
 abbrev pub sentence : TraceState → Race → Option ℕ → List ℕ
 sentence trace r seen = sentence_front trace r ++ sentence_end trace r seen
 
--- behind an empty line and a tab the line of the race; then the heads of the columns, the lines below them, and the sentence
+-- behind an empty line and a tab the line of the race; then the picture and the sentence
 abbrev pub drawing_text : TraceState → LayoutState → List ℕ
 drawing_text trace l =
-    codes "\n\t" ++ (race_line trace (race_of l.race) ++ (heads trace l ++ (rows_text trace l ++ sentence trace l.race l.seen)))
+    codes "\n\t" ++ (race_line trace (race_of l.race) ++ (newline ++ (picture_text trace l.picture ++ sentence trace l.race l.seen)))
 
--- how many pictures there are, and each of them
-abbrev pub long_lines : TraceState → List LayoutState → List ℕ
-long_lines trace layouts = races_line (length layouts) ++ flat_map (drawing_text trace) layouts
+-- what tells strands apart; of more than 2,000 events no edge is listed, nor drawn
+abbrev pub key : ℕ → List ℕ
+key events =
+    if nat_lt MAX_PLAIN_EVENTS events then ended (codes "(... is the order that is missing; of more than 2,000 events no edge is drawn)")
+    else ended (codes "(... is the order that is missing, === the way of what was seen, --- another edge)")
 
--- the same in lines of at most 100 columns
+-- how many races there are, the key, and each of them
 abbrev pub drawings_text : TraceState → List LayoutState → List ℕ
-drawings_text trace layouts = folded line_start (long_lines trace layouts)
+drawings_text trace layouts = races_line (length layouts) ++ (key (length trace.events) ++ flat_map (drawing_text trace) layouts)
+
+-- a clean trace's report, and behind an empty line its picture
+abbrev pub chart_text : TraceState → PictureState → List ℕ
+chart_text trace p = report trace model.Clean ++ (newline ++ picture_text trace p)
+
+-- the text is that of the drawings of these races, as an SVG document or not
+pub record AreDrawn (trace : TraceState) (svg : Bool) (races : List Race) (text : List ℕ) : Type 0 where
+  pub layouts : List LayoutState
+  pub laid_out : AreLayoutsOf trace races layouts
+  pub drawn : text ≡ in_form svg (drawings_text trace layouts)
+
+-- the text is the chart of a clean trace that has one, and else the line of its report
+abbrev pub IsChartOf : Bool → TraceState → Bool → List ℕ → Type 0
+IsChartOf true trace svg text = (p : PictureState) × IsCleanPictureOf trace p × (text ≡ in_form svg (chart_text trace p))
+IsChartOf false trace svg text = text ≡ in_form svg (report trace model.Clean)
+
+abbrev pub IsDrawnClean : TraceState → Bool → List ℕ → Type 0
+IsDrawnClean trace svg text = IsChartOf (has_chart (length trace.events)) trace svg text
 
 -- the numbers that are printed are the trace's
 pub record CanBeDrawn (trace : TraceState) (l : LayoutState) : Type 0 where
   pub race : IsOf trace (race_of l.race)
   pub seen : IfSome l.seen (λ p. p < length trace.events)
-  pub rows : All (λ k. k < length trace.events) l.rows
+  pub picture : CanBePrinted trace l.picture

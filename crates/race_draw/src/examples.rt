@@ -1,21 +1,22 @@
 //! What is drawn of a few edges, and beside each what isn't. Each function does nothing, and its contract is the example.
 ghost use Rattle.std.specs.Prelude.{◌≡◌, [], ◌∷◌, true, false, codes, Some, None};
-ghost use Rattle.race_draw.specs.{Clean.{are_too_many, kept}, Fold.folds, Layout.next_of, Svg.escaped, Examples.edge};
+ghost use Rattle.race_draw.specs.{Clean.kept, Picture.column_of, Fold.folds, Layout.next_of, Svg.escaped, Examples.edge};
 ghost use Rattle.race_draw.specs.Examples.{lanes_of, goroutines, over_a_receive, handed_on, unlock_for_both};
 ghost use Rattle.race_draw.specs.Examples.{missing_to, at};
 
-/// Nine goroutines have a column each; of ten the last ones share one.
+/// Nine goroutines have a column each, and all others share the tenth.
 pub fn nine_have_columns()
-    ensures nine { are_too_many (goroutines 9) ≡ false }
-    ensures ten { are_too_many (goroutines 10) ≡ true }
+    ensures ninth { column_of (goroutines 10) 8 ≡ 8 }
+    ensures tenth { column_of (goroutines 10) 9 ≡ 9 }
+    ensures last { column_of (goroutines 10) 200 ≡ 9 }
 {}
 
 /// Two edges of which one ends at the event where the other begins meet, and have lanes of their own; where one begins later,
 /// they share one. An edge inside one event has none.
 pub fn edges_that_meet_have_lanes_of_their_own()
-    ensures meet { lanes_of (edge 0 0 1 2 ∷ edge 1 2 0 4 ∷ []) ≡ Some 0 ∷ Some 1 ∷ [] }
-    ensures later { lanes_of (edge 0 0 1 2 ∷ edge 1 3 0 4 ∷ []) ≡ Some 0 ∷ Some 0 ∷ [] }
-    ensures inside { lanes_of (edge 0 0 1 0 ∷ edge 1 2 0 4 ∷ []) ≡ None ∷ Some 0 ∷ [] }
+    ensures meet { lanes_of (edge 0 0 1 2 ∷ edge 1 2 0 4 ∷ []) ≡ Some 10 ∷ Some 11 ∷ [] }
+    ensures later { lanes_of (edge 0 0 1 2 ∷ edge 1 3 0 4 ∷ []) ≡ Some 10 ∷ Some 10 ∷ [] }
+    ensures inside { lanes_of (edge 0 0 1 0 ∷ edge 1 2 0 4 ∷ []) ≡ None ∷ Some 10 ∷ [] }
 {}
 
 /// An edge that enters a goroutine leads on by what leaves it later, and by nothing that leaves it in the same event: an edge
@@ -39,8 +40,9 @@ pub fn a_line_has_a_hundred_columns()
 {}
 
 /// A quote could end an attribute, and another text stands for it; a letter stands for itself.
+#[tactic(auto, unfolding(crate::specs::Svg::escaped))]
 pub fn quotes_do_not_stand_bare()
-    ensures single { escaped 39 ≡ Some (codes "&#39;") }
-    ensures double { escaped 34 ≡ Some (codes "&quot;") }
-    ensures letter { escaped 97 ≡ None }
+    ensures single { escaped 39 ≡ codes "&#39;" }
+    ensures double { escaped 34 ≡ codes "&quot;" }
+    ensures letter { escaped 97 ≡ codes "a" }
 {}

@@ -1,15 +1,17 @@
-//! What is drawn of a race, as a value that every printer takes.
+//! What is drawn of a race, as a value.
 ghost use Rattle.std.specs.Prelude.{◌≡◌, ◌<◌, All, length, IfOk};
 ghost use Rattle.race_model.specs.Legal.{IsLegal};
 ghost use Rattle.race_verdict.specs.Traces.{capacities};
 ghost use Rattle.race_shards.specs.Witness.{RacesInOrder};
-ghost use Rattle.race_draw.specs.{Text.CanBeDrawn, Layout.{AreListed, IsLayoutOf, AreLaidOut, AreLayoutsOf}};
+ghost use Rattle.race_draw.specs.{Text.CanBeDrawn, Rows.CanBePrinted};
+ghost use Rattle.race_draw.specs.Layout.{AreListed, IsPictureOf, IsLayoutOf, AreLaidOut, AreLayoutsOf};
 ghost use Rattle.race_draw.specs.Layout as spec;
 
-use crate::arrow::{Arrow, arrows};
+use crate::others::others;
+use crate::picture::{Picture, Strand, Style, columns, put_strands};
 use crate::way::way;
 use race_edges::{Edge, EdgeFault, edges};
-use race_records::Trace;
+use race_records::{Kind, Trace};
 use race_shards::last_seen;
 use race_verdict::Race;
 use std::alloc::{AllocError, Allocator, Global};
@@ -20,8 +22,7 @@ use std::marker::Model;
 pub struct Layout<A: Allocator = Global> {
     pub(crate) race: Race,
     pub(crate) seen: Option<u32>,
-    pub(crate) arrows: Vec<Arrow, A>,
-    pub(crate) rows: Vec<u32, A>,
+    pub(crate) picture: Picture<A>,
 }
 
 impl<A: Allocator> Model for Layout<A> {
@@ -29,37 +30,7 @@ impl<A: Allocator> Model for Layout<A> {
 
     ghost Value = { LayoutState };
 
-    ghost view = { λ l. record { race = l.race; seen = l.seen; arrows = l.arrows.items; rows = l.rows.items } };
-}
-
-impl<A: Allocator> Layout<A> {
-    /// The race.
-    pub fn race(&self) -> &Race
-        ensures { result.now ≡ self.now.race }
-    {
-        &self.race
-    }
-
-    /// The last event of the first access's goroutine that the second access has seen.
-    pub fn seen(&self) -> Option<u32>
-        ensures { result ≡ self.now.seen }
-    {
-        self.seen
-    }
-
-    /// The arrows, of which the first is the one that is missing.
-    pub fn arrows(&self) -> &[Arrow]
-        ensures { result.now ≡ self.now.arrows }
-    {
-        self.arrows.as_slice()
-    }
-
-    /// The events that are shown, in order.
-    pub fn rows(&self) -> &[u32]
-        ensures { result.now ≡ self.now.rows }
-    {
-        self.rows.as_slice()
-    }
+    ghost view = { λ l. record { race = l.race; seen = l.seen; picture = l.picture } };
 }
 
 // What is drawn of a race of the trace.
@@ -77,18 +48,45 @@ fn lay_out<A: Allocator + Copy, B: Allocator>(
     let seen = last_seen(alloc, trace, race)?;
     let missing = missing(trace, race);
     let way = way(alloc, trace, edges, seen, &missing)?;
-    let arrows = arrows(alloc, edges, &missing, way.as_slice())?;
-    let rows = rows(alloc, arrows.as_slice(), trace.len() as u32)?;
+    let events = trace.len() as u32;
+    let picture = picture_of(alloc, trace, events, edges, &missing, way.as_slice())?;
     Ok(Layout {
         race: *race,
         seen,
-        arrows,
+        picture,
+    })
+}
+
+// The picture of a race, by this way.
+fn picture_of<A: Allocator + Copy, B: Allocator>(
+    alloc: A,
+    trace: &Trace<B>,
+    events: u32,
+    edges: &[Edge],
+    missing: &Edge,
+    way: &[Edge],
+) -> Result<Picture<A>, AllocError>
+    requires { events ≡ length trace.now.events }
+    ensures { IfOk result (λ picture. IsPictureOf trace.now edges.now missing.now way.now picture) }
+{
+    let others = others(alloc, edges, way, missing)?;
+    let mut strands = Vec::new(alloc);
+    put_strands(&mut strands, Style::Missing, &[*missing])?;
+    put_strands(&mut strands, Style::Way, way)?;
+    put_strands(&mut strands, Style::Plain, others.as_slice())?;
+    let front = [missing.from_who, missing.to_who];
+    let goroutines = trace.decls().count(Kind::Goroutine);
+    let columns = columns(alloc, &front, &[], strands.as_slice(), goroutines)?;
+    let rows = rows(alloc, strands.as_slice(), events)?;
+    Ok(Picture {
+        columns,
+        strands,
         rows,
     })
 }
 
-/// From the first access to the second.
-pub(crate) fn missing<A: Allocator>(trace: &Trace<A>, race: &Race) -> Edge
+// From the first access to the second.
+fn missing<A: Allocator>(trace: &Trace<A>, race: &Race) -> Edge
     requires first { race.now.first < length trace.now.events }
     requires second { race.now.second < length trace.now.events }
     ensures { result ≡ spec.missing trace.now.events race.now }
@@ -101,19 +99,17 @@ pub(crate) fn missing<A: Allocator>(trace: &Trace<A>, race: &Race) -> Edge
     }
 }
 
-// Whether an arrow leaves the event or enters it.
-fn is_shown(arrows: &[Arrow], event: u32) -> bool
-    ensures { result ≡ spec.is_shown arrows.now event }
+// Whether a strand leaves the event or enters it.
+fn is_shown(strands: &[Strand], event: u32) -> bool
+    ensures { result ≡ spec.is_shown strands.now event }
 {
-    arrows
-        .iter()
-        .any(|arrow| arrow.edge.from == event || arrow.edge.to == event)
+    strands.iter().any(|strand| strand.edge.from == event || strand.edge.to == event)
 }
 
 /// What is drawn of each race of a list, in order.
 ///
 /// Takes time for each race in proportion to the events, and of a trace of at most 2,000 events once in the square of them.
-pub fn lay_out_all<A: Allocator + Copy, B: Allocator>(
+pub(crate) fn lay_out_all<A: Allocator + Copy, B: Allocator>(
     alloc: A,
     trace: &Trace<B>,
     races: &[Race],
@@ -163,11 +159,11 @@ fn each_laid_out<A: Allocator + Copy, B: Allocator>(
 }
 
 // The events that are shown, of so many.
-fn rows<A: Allocator>(alloc: A, arrows: &[Arrow], events: u32) -> Result<Vec<u32, A>, AllocError>
-    ensures { IfOk result (λ rows. rows.items ≡ spec.rows_of events arrows.now) }
+fn rows<A: Allocator>(alloc: A, strands: &[Strand], events: u32) -> Result<Vec<u32, A>, AllocError>
+    ensures { IfOk result (λ rows. rows.items ≡ spec.rows_of events strands.now) }
 {
     let rows = (0..events)
-        .filter(|event| is_shown(arrows, *event))
+        .filter(|event| is_shown(strands, *event))
         .collect(alloc)?;
     Ok(rows)
 }

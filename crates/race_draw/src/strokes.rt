@@ -1,285 +1,113 @@
-//! The pieces of a clean trace's rows: a cell for each column of goroutines, and one for each lane of edges.
-ghost use Rattle.std.specs.{Prelude.◌≡◌, List.find, Option.option_copied};
+//! What is drawn in a row: strokes from track to track.
+ghost use Rattle.std.specs.{Prelude.{◌≡◌, ◌<◌, ◌++◌, length, IfOk, OnOk}, List.flat_map, Option.option_to_list};
 ghost use Rattle.race_draw.specs.Strokes as spec;
 
-use crate::clean::Strand;
+use crate::picture::{Picture, Strand, Style, column_of};
+use race_records::Trace;
+use std::alloc::{AllocError, Allocator};
 
-/// What a row of a clean trace's drawing shows of its event.
+/// A stroke of a row.
 #[derive(Clone, Copy, Debug)]
-pub(crate) struct Row {
-    /// The event.
-    pub at: u32,
-    /// The column of the goroutine whose event it is.
-    pub who: u32,
-    /// The column of the other goroutine that takes part, or the same one.
-    pub other: u32,
-    /// Whether an edge inside the event enters the other's part.
-    pub to_other: bool,
-    /// Whether one enters the goroutine's own.
-    pub to_who: bool,
-    /// Whether an edge leaves the event or enters it by a lane.
-    pub turns: bool,
-    /// Whether one enters it so.
-    pub entered: bool,
+pub(crate) struct Stroke {
+    /// From this track.
+    pub low: usize,
+    /// To this one, right of it or the same.
+    pub high: usize,
+    /// At which track it points.
+    pub tip: Option<usize>,
+    pub style: Style,
 }
 
-// Whether the strand is inside the event.
-fn is_inside(at: u32, strand: &Strand) -> bool
-    ensures { result ≡ spec.is_inside at strand.now }
+// What is drawn of a strand inside an event, where it is this one.
+fn in_event(columns: &[u32], at: u32, strand: &Strand) -> Option<Stroke>
+    ensures { result ≡ spec.in_event columns.now at strand.now }
 {
-    strand.edge.from == at && strand.edge.to == at
+    let from = column_of(columns, strand.edge.from_who);
+    let to = column_of(columns, strand.edge.to_who);
+    if strand.edge.from != at {
+        return None;
+    }
+    Some(Stroke {
+        low: from.min(to),
+        high: from.max(to),
+        tip: Some(to),
+        style: strand.style,
+    })
 }
 
-// Whether it enters the goroutine's part of the event.
-fn enters_inside(at: u32, goroutine: u32, strand: &Strand) -> bool
-    ensures { result ≡ spec.enters_inside at goroutine strand.now }
+// What is drawn of one in the lane, in the row of the event.
+fn in_lane(columns: &[u32], at: u32, strand: &Strand, lane: usize) -> Option<Stroke>
+    ensures { result ≡ spec.in_lane columns.now at strand.now lane }
 {
-    is_inside(at, strand) && strand.edge.to_who == goroutine && strand.edge.from_who != goroutine
+    let (edge, style, high) = (&strand.edge, strand.style, lane);
+    let (from, to) = (
+        column_of(columns, edge.from_who),
+        column_of(columns, edge.to_who),
+    );
+    let (low, tip) = if edge.from == at {
+        (from, None)
+    } else if edge.to == at {
+        (to, Some(to))
+    } else if edge.from < at && at < edge.to {
+        (lane, None)
+    } else {
+        return None;
+    };
+    Some(Stroke {
+        low,
+        high,
+        tip,
+        style,
+    })
 }
 
-// Whether the strand turns at the event in this lane or further right.
-fn turns_from(at: u32, lane: u32, strand: &Strand) -> bool
-    ensures { result ≡ spec.turns_from at lane strand.now }
+// What is drawn of each.
+fn stroke_of(columns: &[u32], at: u32, strand: &Strand) -> Option<Stroke>
+    ensures { result ≡ spec.stroke_of columns.now at strand.now }
 {
+    if strand.edge.from == strand.edge.to {
+        return in_event(columns, at, strand);
+    }
     match strand.lane {
-        Some(own) => lane <= own && (strand.edge.from == at || strand.edge.to == at),
-        None => false,
+        Some(lane) => in_lane(columns, at, strand, lane),
+        None => None,
     }
 }
 
-// Whether it enters the event by a lane.
-fn enters_by_lane(at: u32, strand: &Strand) -> bool
-    ensures { result ≡ spec.enters_by_lane at strand.now }
+// Puts the stroke behind the others, where there is one.
+fn put_stroke<A: Allocator>(
+    strokes: &mut Vec<Stroke, A>,
+    stroke: Option<Stroke>,
+) -> Result<(), AllocError>
+    ensures { OnOk result (strokes.new.items ≡ strokes.old.items ++ option_to_list stroke) }
 {
-    strand.lane.is_some() && strand.edge.to == at
-}
-
-// Whether it turns at the event in the lane.
-fn turns_in(at: u32, lane: u32, strand: &Strand) -> bool
-    ensures { result ≡ spec.turns_in at lane strand.now }
-{
-    match strand.lane {
-        Some(own) => own == lane && (strand.edge.from == at || strand.edge.to == at),
-        None => false,
+    if let Some(stroke) = stroke {
+        strokes.push(stroke)?;
     }
+    Ok(())
 }
 
-// Whether it goes by the event in the lane.
-fn goes_by(at: u32, lane: u32, strand: &Strand) -> bool
-    ensures { result ≡ spec.goes_by at lane strand.now }
+/// The strokes in the row of the event.
+pub(crate) fn strokes_at<A: Allocator, B: Allocator, C: Allocator>(
+    alloc: A,
+    trace: &Trace<B>,
+    picture: &Picture<C>,
+    at: u32,
+) -> Result<Vec<Stroke, A>, AllocError>
+    requires { at < length trace.now.events }
+    ensures { IfOk result (λ strokes. strokes.items ≡ spec.strokes_at trace.now picture.now at) }
 {
-    match strand.lane {
-        Some(own) => own == lane && strand.edge.from < at && at < strand.edge.to,
-        None => false,
+    let columns = picture.columns.as_slice();
+    let mut strokes = Vec::new(alloc);
+    for strand in picture.strands.as_slice() {
+        put_stroke(&mut strokes, stroke_of(columns, at, strand))?;
     }
-}
-
-// The first strand inside the event.
-fn first_inside(strands: &[Strand], at: u32) -> Option<&Strand>
-    ensures { option_copied result ≡ find (spec.is_inside at) strands.now }
-{
-    strands.iter().find(|strand| is_inside(at, strand))
-}
-
-// Of which goroutines it is, other than this one.
-fn other_of(strand: &Strand, who: u32) -> u32
-    ensures { result ≡ spec.other_of strand.now who }
-{
-    if strand.edge.to_who == who {
-        strand.edge.from_who
-    } else {
-        strand.edge.to_who
-    }
-}
-
-// The goroutine that takes part beside this one, or itself.
-fn other_at(strands: &[Strand], at: u32, who: u32) -> u32
-    ensures { result ≡ spec.other_at strands.now at who }
-{
-    match first_inside(strands, at) {
-        Some(strand) => other_of(strand, who),
-        None => who,
-    }
-}
-
-// Whether a strand inside the event enters the goroutine's part.
-fn is_met(strands: &[Strand], at: u32, goroutine: u32) -> bool
-    ensures { result ≡ spec.is_met strands.now at goroutine }
-{
-    strands
-        .iter()
-        .any(|strand| enters_inside(at, goroutine, strand))
-}
-
-// Whether one turns at the event in this lane or further right.
-fn has_turn_from(strands: &[Strand], at: u32, lane: u32) -> bool
-    ensures { result ≡ spec.has_turn_from strands.now at lane }
-{
-    strands.iter().any(|strand| turns_from(at, lane, strand))
-}
-
-// Whether one enters the event by a lane.
-fn has_entry(strands: &[Strand], at: u32) -> bool
-    ensures { result ≡ spec.has_entry strands.now at }
-{
-    strands.iter().any(|strand| enters_by_lane(at, strand))
-}
-
-// Whether one turns at the event in the lane.
-fn has_turn(strands: &[Strand], at: u32, lane: u32) -> bool
-    ensures { result ≡ spec.has_turn strands.now at lane }
-{
-    strands.iter().any(|strand| turns_in(at, lane, strand))
-}
-
-// Whether one goes by the event in the lane.
-fn has_by(strands: &[Strand], at: u32, lane: u32) -> bool
-    ensures { result ≡ spec.has_by strands.now at lane }
-{
-    strands.iter().any(|strand| goes_by(at, lane, strand))
-}
-
-// The column of a goroutine: the last one for all behind it.
-fn column_of(last: u32, goroutine: u32) -> u32
-    ensures { result ≡ spec.column_of last goroutine }
-{
-    goroutine.min(last)
-}
-
-/// The row of the goroutine's event.
-pub(crate) fn row_of(strands: &[Strand], last: u32, at: u32, who: u32) -> Row
-    ensures { result ≡ spec.row_of strands.now last at who }
-{
-    let other = other_at(strands, at, who);
-    Row {
-        at,
-        who: column_of(last, who),
-        other: column_of(last, other),
-        to_other: is_met(strands, at, other),
-        to_who: is_met(strands, at, who),
-        turns: has_turn_from(strands, at, 0),
-        entered: has_entry(strands, at),
-    }
-}
-
-// Whether a stroke comes to the column from the left.
-fn comes_from_left(row: &Row, column: u32) -> bool
-    ensures { result ≡ spec.comes_from_left row.now column }
-{
-    (row.who.min(row.other) < column && column <= row.who.max(row.other))
-        || (row.turns && row.who < column)
-}
-
-// Whether one goes on to the right.
-fn goes_right(row: &Row, column: u32) -> bool
-    ensures { result ≡ spec.goes_right row.now column }
-{
-    (row.who.min(row.other) <= column && column < row.who.max(row.other))
-        || (row.turns && row.who <= column)
-}
-
-// Whether an edge inside the event enters the column.
-fn is_entered(row: &Row, column: u32) -> bool
-    ensures { result ≡ spec.is_entered row.now column }
-{
-    (row.to_other && column == row.other) || (row.to_who && column == row.who)
-}
-
-// Whether the event is in the column.
-fn is_marked(row: &Row, column: u32) -> bool
-    ensures { result ≡ spec.is_marked row.now column }
-{
-    column == row.who || column == row.other
-}
-
-// What stands left of the column's line.
-fn left_of(row: &Row, column: u32) -> u8
-    ensures { result ≡ spec.left_of row.now column }
-{
-    if !comes_from_left(row, column) {
-        b' '
-    } else if is_entered(row, column) {
-        b'>'
-    } else {
-        b'-'
-    }
-}
-
-// What stands right of it.
-fn right_of(row: &Row, column: u32) -> u8
-    ensures { result ≡ spec.right_of row.now column }
-{
-    if !goes_right(row, column) {
-        b' '
-    } else if is_entered_from_right(row, column) {
-        b'<'
-    } else {
-        b'-'
-    }
-}
-
-// Whether an edge enters the column from the right.
-fn is_entered_from_right(row: &Row, column: u32) -> bool
-    ensures { result ≡ spec.is_entered_from_right row.now column }
-{
-    (row.entered && column == row.who)
-        || (is_entered(row, column) && column < row.who.max(row.other))
-}
-
-// What stands in the column itself.
-fn middle_of(row: &Row, column: u32) -> u8
-    ensures { result ≡ spec.middle_of row.now column }
-{
-    if is_marked(row, column) { b'o' } else { b'|' }
-}
-
-// What stands before the next one.
-fn end_of(row: &Row, column: u32) -> u8
-    ensures { result ≡ spec.end_of row.now column }
-{
-    if goes_right(row, column) { b'-' } else { b' ' }
-}
-
-/// What the row has in a column.
-pub(crate) fn column_cell(row: &Row, column: u32) -> [u8; 4]
-    ensures { result ≡ spec.column_cell row.now column }
-{
-    [
-        left_of(row, column),
-        middle_of(row, column),
-        right_of(row, column),
-        end_of(row, column),
-    ]
-}
-
-// What the row has in a lane before its line.
-fn stroke_to(strands: &[Strand], at: u32, lane: u32) -> u8
-    ensures { result ≡ spec.stroke_to strands.now at lane }
-{
-    if has_turn_from(strands, at, lane) {
-        b'-'
-    } else {
-        b' '
-    }
-}
-
-// What it has in the lane itself.
-fn lane_mark(strands: &[Strand], at: u32, lane: u32) -> u8
-    ensures { result ≡ spec.lane_mark strands.now at lane }
-{
-    if has_turn(strands, at, lane) {
-        b'+'
-    } else if has_by(strands, at, lane) {
-        b'|'
-    } else {
-        stroke_to(strands, at, lane)
-    }
-}
-
-/// What the row has in a lane.
-pub(crate) fn lane_cell(strands: &[Strand], at: u32, lane: u32) -> [u8; 3]
-    ensures { result ≡ spec.lane_cell strands.now at lane }
-{
-    let stroke = stroke_to(strands, at, lane);
-    [stroke, stroke, lane_mark(strands, at, lane)]
+    let who = column_of(columns, trace.event(at as usize).who);
+    strokes.push(Stroke {
+        low: who,
+        high: who,
+        tip: None,
+        style: Style::Plain,
+    })?;
+    Ok(strokes)
 }

@@ -1,31 +1,13 @@
-//! A drawing's text as an SVG document: each line of the text is one of the picture, in light or dark as the reader has it.
-ghost use Rattle.std.specs.{Prelude.{◌≡◌, ◌++◌, option_map}, List.flat_map};
-ghost use Rattle.race_records.specs.Page.{Printing};
-ghost use Rattle.race_text.specs.Output.{Writes};
+//! A text as it is handed out: as it stands, or as an SVG document, of which each line of the text is one of the picture, in light or dark as the
+//! reader has it, and what is stressed has a colour.
+ghost use Rattle.std.specs.{Prelude.{◌≡◌, ◌++◌, map, IfOk, OnOk}, List.flat_map};
 ghost use Rattle.race_draw.specs.Svg as spec;
 
-use itoa::Buffer;
-use race_records::{Page, Sink, WriteFault};
-use std::io::Write;
-
-/// How large a picture is.
-#[derive(Clone, Copy, Debug, PartialEq, Eq)]
-pub struct Size {
-    /// From left to right.
-    pub width: u64,
-    /// From top to bottom.
-    pub height: u64,
-}
-
-/// How large the picture of a text is.
-pub fn size_of(text: &[u8]) -> Size
-    ensures { result ≡ spec.size_of text.now }
-{
-    Size {
-        width: extent(longest(text), 9, 32),
-        height: extent(lines(text), 16, 36),
-    }
-}
+use crate::fold::folded;
+use crate::picture::STRESS;
+use crate::words::put_decimal;
+use std::alloc::{AllocError, Allocator};
+use std::slice;
 
 // How far so many reach that are this far apart, with a margin.
 fn extent(count: usize, each: u64, margin: u64) -> u64
@@ -57,130 +39,133 @@ fn longest(text: &[u8]) -> usize
     most.max(column)
 }
 
-/// Writes a text. Takes no memory.
-///
-/// A write that fails or takes no byte ends it: then exactly the first `sent` bytes are out.
-pub fn write_text<W: Write>(text: &[u8], sink: &mut Sink<W>) -> Result<(), WriteFault>
-    ensures { Writes W.contents result sink.old sink.new text.now }
-{
-    let mut page = Page::new();
-    match page.put(sink, text) {
-        Ok(()) => page.flush(sink),
-        Err(fault) => Err(fault),
-    }
-}
-
-/// Writes a text as an SVG document. Takes no memory; writes in blocks of at most 4,096 bytes.
-///
-/// The document has no script and refers to nothing. A write that fails or takes no byte ends it: then exactly the first
-/// `sent` bytes are out.
-pub fn write_svg<W: Write>(text: &[u8], sink: &mut Sink<W>) -> Result<(), WriteFault>
-    ensures { Writes W.contents result sink.old sink.new (spec.svg_text text.now) }
-{
-    let mut page = Page::new();
-    match print_svg(&mut page, sink, text) {
-        Ok(()) => page.flush(sink),
-        Err(fault) => Err(fault),
-    }
-}
-
-// Prints the document.
-fn print_svg<W: Write>(page: &mut Page, sink: &mut Sink<W>, text: &[u8]) -> Result<(), WriteFault>
-    ensures { Printing W.contents result sink.old sink.new page.old page.new
-        (spec.svg_text text.now) }
-{
-    match print_svg_head(page, sink, size_of(text)) {
-        Ok(()) => print_svg_body(page, sink, text),
-        Err(fault) => Err(fault),
-    }
-}
-
-#[tactic(auto, unfolding(crate::specs::Svg::svg_head))]
-fn print_svg_head<W: Write>(
-    page: &mut Page,
-    sink: &mut Sink<W>,
-    size: Size,
-) -> Result<(), WriteFault>
-    ensures { Printing W.contents result sink.old sink.new page.old page.new (spec.svg_head size) }
-{
-    let (mut width, mut height) = (Buffer::new(), Buffer::new());
-    let (width, height) = (
-        width.format(size.width).as_bytes(),
-        height.format(size.height).as_bytes(),
-    );
-    let parts = [
-        b"<svg xmlns='http://www.w3.org/2000/svg' width='".as_slice(),
-        width,
-        b"' height='".as_slice(),
-        height,
-        b"' viewBox='0 0 ".as_slice(),
-        width,
-        b" ".as_slice(),
-        height,
-        b"' style='color-scheme:light dark'>\n<title>A run of goroutines</title>\n".as_slice(),
-        b"<desc>Each goroutine has a column, and time goes down. Lines between columns are synchronization; ".as_slice(),
-        b"dots are an order that is missing.</desc>\n<style>\nrect { fill: #fff }\n".as_slice(),
-        b"text { font: 14px monospace; white-space: pre; fill: #222 }\n".as_slice(),
-        b"@media (prefers-color-scheme: dark) { rect { fill: #111 } text { fill: #ddd } }\n".as_slice(),
-        b"</style>\n<rect width='100%' height='100%'/>\n<text xml:space='preserve'".as_slice(),
-        b"><tspan x='16' dy='16'>".as_slice(),
-    ];
-    page.put_all(sink, &parts)
-}
-
-// Prints the text and the end of the document.
-fn print_svg_body<W: Write>(
-    page: &mut Page,
-    sink: &mut Sink<W>,
+/// The text in lines of at most 100 columns, as it stands or as a document. The document has no script and refers to nothing.
+pub(crate) fn in_form<A: Allocator + Copy>(
+    alloc: A,
     text: &[u8],
-) -> Result<(), WriteFault>
-    ensures { Printing W.contents result sink.old sink.new page.old page.new
-        (flat_map spec.in_svg text.now ++ spec.svg_end) }
+    svg: bool,
+) -> Result<Vec<u8, A>, AllocError>
+    ensures { IfOk result (λ formed. formed.items ≡ spec.in_form svg text.now) }
 {
-    match print_escaped(page, sink, text) {
-        Ok(()) => page.put(sink, b"</tspan></text>\n</svg>\n"),
-        Err(fault) => Err(fault),
+    let text = folded(alloc, text)?;
+    if svg {
+        document(alloc, text.as_slice())
+    } else {
+        plain(alloc, text.as_slice())
     }
 }
 
-// Prints each byte of the text as it stands in the document.
-fn print_escaped<W: Write>(
-    page: &mut Page,
-    sink: &mut Sink<W>,
-    text: &[u8],
-) -> Result<(), WriteFault>
-    ensures { Printing W.contents result sink.old sink.new page.old page.new
-        (flat_map spec.in_svg text.now) }
+// The byte without its stress.
+fn unstressed(byte: u8) -> u8
+    ensures { result ≡ spec.unstressed byte }
+{
+    if STRESS <= byte { byte - STRESS } else { byte }
+}
+
+// The text without stress.
+fn plain<A: Allocator>(alloc: A, text: &[u8]) -> Result<Vec<u8, A>, AllocError>
+    ensures { IfOk result (λ plain. plain.items ≡ map spec.unstressed text.now) }
+{
+    let plain = text.iter().map(|byte| unstressed(*byte)).collect(alloc)?;
+    Ok(plain)
+}
+
+// The document of a text.
+fn document<A: Allocator>(alloc: A, text: &[u8]) -> Result<Vec<u8, A>, AllocError>
+    ensures { IfOk result (λ document. document.items ≡ spec.svg_text text.now) }
+{
+    let mut out = Vec::with_capacity(alloc, text.len())?;
+    put_head(
+        &mut out,
+        extent(longest(text), 9, 32),
+        extent(lines(text), 16, 36),
+    )?;
+    put_bytes(&mut out, text)?;
+    out.extend_from_slice(b"</tspan></text>\n</svg>\n")?;
+    Ok(out)
+}
+
+// Puts all up to the first line.
+fn put_head<A: Allocator>(out: &mut Vec<u8, A>, width: u64, height: u64) -> Result<(), AllocError>
+    ensures { OnOk result (out.new.items ≡ out.old.items ++ spec.svg_head width height) }
+{
+    put_pair(out, open(), width, b"' height='", height)?;
+    put_pair(out, b"' viewBox='0 0 ", width, b" ", height)?;
+    out.extend_from_slice(style())?;
+    Ok(())
+}
+
+// Puts two numbers behind these words.
+fn put_pair<A: Allocator>(
+    out: &mut Vec<u8, A>,
+    before: &[u8],
+    width: u64,
+    between: &[u8],
+    height: u64,
+) -> Result<(), AllocError>
+    ensures { OnOk result (out.new.items ≡ out.old.items
+        ++ spec.pair before.now width between.now height) }
+{
+    out.extend_from_slice(before)?;
+    put_decimal(out, width)?;
+    out.extend_from_slice(between)?;
+    put_decimal(out, height)
+}
+
+// How the document begins.
+#[tactic(auto, unfolding(crate::specs::Svg::svg_open))]
+fn open() -> &'static [u8]
+    ensures { result.now ≡ spec.svg_open }
+{
+    b"<svg xmlns='http://www.w3.org/2000/svg' width='"
+}
+
+// What the document says of itself, and its colours.
+#[tactic(auto, unfolding(crate::specs::Svg::svg_style))]
+fn style() -> &'static [u8]
+    ensures { result.now ≡ spec.svg_style }
+{
+    b"' style='color-scheme:light dark'>\n<title>A run of goroutines</title>\n<desc>Each goroutine has a column, and time goes down. \
+    Lines between columns are synchronization; dots are an order that is missing.</desc>\n<style>\nrect { fill: #fff }\n\
+    text { font: 14px monospace; white-space: pre; fill: #222 }\n.race { fill: #c00; font-weight: bold }\n\
+    @media (prefers-color-scheme: dark) { rect { fill: #111 } text { fill: #ddd } .race { fill: #f66 } }\n\
+    </style>\n<rect width='100%' height='100%'/>\n<text xml:space='preserve'><tspan x='16' dy='16'>"
+}
+
+// Puts each byte as it stands in the document.
+fn put_bytes<A: Allocator>(out: &mut Vec<u8, A>, text: &[u8]) -> Result<(), AllocError>
+    ensures { OnOk result (out.new.items ≡ out.old.items ++ flat_map spec.in_svg text.now) }
 {
     for byte in text {
-        if let Err(fault) = print_byte(page, sink, *byte) {
-            return Err(fault);
-        }
+        put_byte(out, *byte)?;
     }
     Ok(())
 }
 
-// Prints a byte as it stands in the document.
-fn print_byte<W: Write>(page: &mut Page, sink: &mut Sink<W>, byte: u8) -> Result<(), WriteFault>
-    ensures { Printing W.contents result sink.old sink.new page.old page.new (spec.in_svg byte) }
+// Puts a byte, in colour where it is stressed.
+fn put_byte<A: Allocator>(out: &mut Vec<u8, A>, byte: u8) -> Result<(), AllocError>
+    ensures { OnOk result (out.new.items ≡ out.old.items ++ spec.in_svg byte) }
 {
-    match escaped(byte) {
-        Some(piece) => page.put(sink, piece),
-        None => page.put(sink, &[byte]),
+    if byte < STRESS {
+        return out.extend_from_slice(escaped(&byte));
     }
+    out.extend_from_slice(b"<tspan class='race'>")?;
+    out.extend_from_slice(escaped(&unstressed(byte)))?;
+    out.extend_from_slice(b"</tspan>")
 }
 
-// What stands in the document for a byte that can't stand there itself.
-fn escaped(byte: u8) -> Option<&'static [u8]>
-    ensures { option_map (λ piece. piece.now) result ≡ spec.escaped byte }
+// What stands in the document for a byte that isn't stressed.
+#[tactic(auto, unfolding(crate::specs::Svg::escaped))]
+fn escaped(byte: &u8) -> &[u8]
+    ensures { result.now ≡ spec.escaped byte.now }
 {
-    match byte {
-        b'\n' => Some(b" </tspan\n><tspan x='16' dy='16'>".as_slice()),
-        b'&' => Some(b"&amp;".as_slice()),
-        b'<' => Some(b"&lt;".as_slice()),
-        b'>' => Some(b"&gt;".as_slice()),
-        b'"' => Some(b"&quot;".as_slice()),
-        b'\'' => Some(b"&#39;".as_slice()),
-        _ => None,
+    match *byte {
+        b'\n' => b" </tspan\n><tspan x='16' dy='16'>",
+        b'&' => b"&amp;",
+        b'<' => b"&lt;",
+        b'>' => b"&gt;",
+        b'"' => b"&quot;",
+        b'\'' => b"&#39;",
+        _ => slice::from_ref(byte),
     }
 }

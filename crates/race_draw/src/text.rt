@@ -1,36 +1,32 @@
-//! Drawings as text.
-ghost use Rattle.std.specs.{Prelude.{◌≡◌, ◌++◌, All, IfOk, OnOk}, List.flat_map};
+//! The text of drawings.
+ghost use Rattle.std.specs.{Prelude.{◌≡◌, ◌++◌, All, OnOk}, List.flat_map};
 ghost use Rattle.race_draw.specs.Text.{CanBeDrawn};
 ghost use Rattle.race_draw.specs.Text as spec;
 
-use crate::fold::folded;
-use crate::heads::put_heads;
 use crate::layout::Layout;
-use crate::lines::put_rows;
 use crate::printed::{put_race, put_race_count};
+use crate::rows::put_picture;
 use crate::sentence::put_sentence;
-use race_records::{BLOCK, Trace};
+use race_edges::MAX_PLAIN_EVENTS;
+use race_records::Trace;
 use std::alloc::{AllocError, Allocator};
 
-/// How many drawings there are, and each of them as a text, in lines of at most 100 columns.
-///
-/// The layouts are of this trace, as `lay_out_all` makes them.
-pub fn drawings_in_memory<A: Allocator + Copy, B: Allocator, C: Allocator>(
-    alloc: A,
+/// Puts how many races there are, and each of them.
+pub(crate) fn put_drawings<A: Allocator + Copy, B: Allocator, C: Allocator>(
+    out: &mut Vec<u8, A>,
     trace: &Trace<B>,
     layouts: &[Layout<C>],
-) -> Result<Vec<u8, A>, AllocError>
+) -> Result<(), AllocError>
     requires { All (CanBeDrawn trace.now) layouts.now }
-    ensures { IfOk result (λ text. text.items ≡ spec.drawings_text trace.now layouts.now) }
+    ensures { OnOk result (out.new.items ≡ out.old.items ++ spec.drawings_text trace.now layouts.now) }
 {
-    let mut text = Vec::with_capacity(alloc, BLOCK)?;
-    put_race_count(&mut text, layouts.len())?;
-    put_drawings(&mut text, trace, layouts)?;
-    folded(alloc, text.as_slice())
+    put_race_count(out, layouts.len())?;
+    out.extend_from_slice(key(trace.len()))?;
+    put_each(out, trace, layouts)
 }
 
-// Puts each drawing.
-fn put_drawings<A: Allocator + Copy, B: Allocator, C: Allocator>(
+// Puts each of them.
+fn put_each<A: Allocator + Copy, B: Allocator, C: Allocator>(
     out: &mut Vec<u8, A>,
     trace: &Trace<B>,
     layouts: &[Layout<C>],
@@ -44,7 +40,18 @@ fn put_drawings<A: Allocator + Copy, B: Allocator, C: Allocator>(
     Ok(())
 }
 
-// Puts a drawing: behind an empty line the line of the race, the heads of the columns, what stands below them, and the sentence.
+// What tells strands apart, where a trace has so many events.
+fn key(events: usize) -> &'static [u8]
+    ensures { result.now ≡ spec.key events }
+{
+    if events > MAX_PLAIN_EVENTS {
+        b"(... is the order that is missing; of more than 2,000 events no edge is drawn)\n"
+    } else {
+        b"(... is the order that is missing, === the way of what was seen, --- another edge)\n"
+    }
+}
+
+// Puts a drawing: behind an empty line the line of the race, the picture, and the sentence.
 fn put_drawing<A: Allocator + Copy, B: Allocator, C: Allocator>(
     out: &mut Vec<u8, A>,
     trace: &Trace<B>,
@@ -54,8 +61,8 @@ fn put_drawing<A: Allocator + Copy, B: Allocator, C: Allocator>(
     ensures { OnOk result (out.new.items ≡ out.old.items ++ spec.drawing_text trace.now layout.now) }
 {
     out.extend_from_slice(b"\n\t")?;
-    put_race(out, trace, layout.race())?;
-    put_heads(out, trace, layout)?;
-    put_rows(out, trace, layout)?;
-    put_sentence(out, trace, layout.race(), layout.seen())
+    put_race(out, trace, &layout.race)?;
+    out.extend_from_slice(b"\n")?;
+    put_picture(out, trace, &layout.picture)?;
+    put_sentence(out, trace, &layout.race, layout.seen)
 }

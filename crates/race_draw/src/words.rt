@@ -23,14 +23,14 @@ pub(crate) fn op_at<A: Allocator>(trace: &Trace<A>, index: u32) -> &Op
     &trace.event(index as usize).op
 }
 
-// Puts the number of an event, counted from 1.
-fn put_number<A: Allocator>(out: &mut Vec<u8, A>, event: u32) -> Result<(), AllocError>
-    ensures { OnOk result (out.new.items ≡ out.old.items ++ decimal (event + 1)) }
+/// Puts a number.
+pub(crate) fn put_decimal<A: Allocator>(out: &mut Vec<u8, A>, number: u64) -> Result<(), AllocError>
+    ensures { OnOk result (out.new.items ≡ out.old.items ++ decimal number) }
 {
-    out.extend_from_slice(Buffer::new().format(u64::from(event) + 1).as_bytes())
+    out.extend_from_slice(Buffer::new().format(number).as_bytes())
 }
 
-/// Puts it between these words.
+/// Puts the number of an event, counted from 1, between these words.
 pub(crate) fn put_number_in<A: Allocator>(
     out: &mut Vec<u8, A>,
     before: &[u8],
@@ -40,7 +40,7 @@ pub(crate) fn put_number_in<A: Allocator>(
     ensures { OnOk result (out.new.items ≡ out.old.items ++ spec.number_in before.now event behind.now) }
 {
     out.extend_from_slice(before)?;
-    put_number(out, event)?;
+    put_decimal(out, u64::from(event) + 1)?;
     out.extend_from_slice(behind)
 }
 
@@ -55,7 +55,7 @@ pub(crate) fn put_aligned<A: Allocator>(
     let width = digits(rows.last().copied().unwrap_or(0));
     out.extend_from_slice(b"  ")?;
     out.extend_from_slice(blanks(width.saturating_sub(digits(event))))?;
-    put_number(out, event)
+    put_decimal(out, u64::from(event) + 1)
 }
 
 // How many digits the number of an event has.

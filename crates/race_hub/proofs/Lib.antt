@@ -2,6 +2,7 @@ pub mod LogLemmas
 pub mod ChoiceRows
 pub mod EndLemmas
 pub mod FitLemmas
+pub mod PartnerLemmas
 pub mod FiringLemmas
 pub mod PerformLemmas
 pub mod SubmitLemmas

@@ -1,23 +1,21 @@
 -- A run goes on by an event, and ends with two that race.
-use Rattle.std.proofs.Common.{◌≡◌, ◌≢◌, ◌==◌, ◌||◌, ◌+◌, ◌<◌, ℕ, Bool, true, false, not, cond, IsTrue, IfSome, Option, Some, None}
-use Rattle.std.proofs.Common.{List, [], ◌∷◌, ◌++◌, length, take, filter, slice_get, slice_index_or, replicate, refl, sym, ap}
-use Rattle.std.proofs.Common.{◌∙◌, subst, inl, inr, arith, eq-eqb, eqb-true, append_assoc, length-append, take_all}
-use Rattle.std.proofs.lemmas.{List.{length_push, length-replicate, get_or-replicate, length-take-le}, Bool.Decides.nat_tests}
-use Rattle.std.proofs.lemmas.Option.{slice_get_within}
+use Rattle.std.proofs.Common.{◌≡◌, ◌+◌, ◌<◌, ℕ, Bool, true, IsTrue, IfSome, Option, Some}
+use Rattle.std.proofs.Common.{List, [], ◌∷◌, ◌++◌, length, take, slice_get, slice_index_or, replicate, sym, ap}
+use Rattle.std.proofs.Common.{◌∙◌, subst, inl, inr, arith}
+use Rattle.std.proofs.lemmas.{List.{length_push, length-replicate, get_or-replicate}, Bool.Decides.nat_tests}
 use Rattle.race_records.specs.declared.{event.{Event.Event, Op.{Op, TheVariants.{Go, Meet}}}, kind.Kind.Kind, trace.TheConstants.MAX_EVENTS}
 use Rattle.race_records.specs.{Declarations.{counts_of, DeclsState}, Events.{TraceState, fits}, Operands.op_is_in_range}
 use Rattle.race_records.specs.{declared.operands.{OpKeyword.OpKeyword, Operand.Operand}, Operands.{says, op_by}}
 use Rattle.race_records.proofs.OperandLaws.{says_again}
-use Rattle.race_model.specs.{Events.{At, partner, gives, takes_part, accesses, writes}, Clocks.participations, Legal.IsLegal}
-use Rattle.race_model.specs.Predict.{execution_of, told, AsksTheSame, EndsWithRace}
-use Rattle.race_model.proofs.{Indexes.{push_at, append_at_old, slice_get-push}, PredictLemmas.{filter_push, filter_drop, ends_by}}
-use Rattle.race_legal.{specs.{StandsFor.StandsFor, ReplayState.IsInRange}, proofs.{Fronts.take_next, RangeLemmas.range_from_fits}}
-use Rattle.race_verdict.specs.Traces.{capacities}
+use Rattle.race_model.specs.{Events.{At, partner}, Clocks.participations}
+use Rattle.race_model.specs.Predict.{execution_of, told}
+use Rattle.race_model.proofs.{Indexes.{push_at, append_at_old, slice_get-push}}
+use Rattle.race_legal.{specs.{StandsFor.StandsFor}, proofs.{Fronts.take_next, RangeLemmas.range_from_fits}}
 use Rattle.race_predict.specs.Fronts.{Counts, counted, IsFront, IsPosition}
-use Rattle.race_predict.specs.{Attempts.{AttemptState, IsAttempt}, Certified.{IsMadeOf, IsRunWithRace}}
+use Rattle.race_predict.specs.{Attempts.{AttemptState, IsAttempt}, Certified.{IsMadeOf}}
 use Rattle.race_predict.specs.declared.positions.Position.{Position}
-use Rattle.race_predict.proofs.FrontLemmas.{counts_go_on, fronts_go_on, is_due, due_at, len_counted, asks_front, asks_last}
-use Rattle.race_predict.proofs.FrontLemmas.{accesses_told, writes_told, access_alone, partner_told, told_same}
+use Rattle.race_predict.proofs.FrontLemmas.{counts_go_on, fronts_go_on, is_due, len_counted}
+use Rattle.race_predict.proofs.FrontLemmas.{told_same}
 
 -- before the first event
 pub starts : (recorded : TraceState) (a : AttemptState) (n : ℕ) → a.trace.decls ≡ recorded.decls → a.trace.events ≡ []

@@ -1,15 +1,15 @@
 -- A run that ends with two accesses that race.
-use Rattle.std.proofs.Common.{◌≡◌, ◌≢◌, ◌==◌, ◌||◌, ◌+◌, ◌<◌, ℕ, Bool, true, false, IsTrue, IfSome, Some, None, List, [], ◌∷◌}
+use Rattle.std.proofs.Common.{◌≡◌, ◌≢◌, ◌==◌, ◌||◌, ◌+◌, ℕ, Bool, true, false, IsTrue, Some, List, [], ◌∷◌}
 use Rattle.std.proofs.Common.{◌++◌, length, take, slice_get, slice_index_or, sym, ap, ◌∙◌, subst, refl, arith, eqb-true, take_all}
-use Rattle.std.proofs.{Common.true≢false, lemmas.{List.length_push, Bool.Decides.nat_tests}}
-use Rattle.race_records.specs.{declared.{event.Event.Event, kind.Kind.Kind}, Declarations.{DeclsState, counts_of}}
+use Rattle.std.proofs.{lemmas.{List.length_push}}
+use Rattle.race_records.specs.{declared.{event.Event.Event}, Declarations.{DeclsState}}
 use Rattle.race_records.specs.Events.{TraceState, fits}
-use Rattle.race_model.specs.{Events.{At, partner, gives, takes_part, accesses, writes}, Clocks.participations, Legal.IsLegal}
+use Rattle.race_model.specs.{Events.{At, gives, takes_part, accesses, writes}, Legal.IsLegal}
 use Rattle.race_model.specs.Predict.{execution_of, told, AsksTheSame, EndsWithRace}
 use Rattle.race_model.proofs.{Reaching.who_takes_part, Indexes.{append_at_old, slice_get-push}, PredictLemmas.{filter_push, filter_drop, ends_by}}
 use Rattle.race_legal.{specs.{StandsFor.StandsFor, ReplayState.ReplayState}, proofs.Fronts.take_next}
 use Rattle.race_verdict.specs.Traces.{capacities}
-use Rattle.race_predict.specs.{declared.positions.Position.Position, Fronts.{IsPosition, IsFront}}
+use Rattle.race_predict.specs.{declared.positions.Position.Position, Fronts.{IsPosition}}
 use Rattle.race_predict.specs.{Attempts.{AttemptState, IsAttempt}, Certified.{IsMadeOf, IsRunWithRace}}
 use Rattle.race_predict.proofs.FrontLemmas.{due_at, asks_front, asks_last, accesses_told, writes_told, access_alone}
 use Rattle.race_predict.proofs.{FrontLemmas.partner_told, AttemptLemmas.{made_push, rows_from_fits}}

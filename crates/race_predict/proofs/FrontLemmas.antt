@@ -1,13 +1,13 @@
 -- Counts of participations, and fronts of executions.
 use Rattle.std.proofs.Common.{◌≡◌, ◌≢◌, ◌⊎◌, ◌==◌, ◌||◌, ◌+◌, ◌<◌, ◌≤◌, ℕ, min, Bool, true, false, cond, IsTrue, IfSome}
-use Rattle.std.proofs.Common.{Option, Some, None, List, [], ◌∷◌, ◌++◌, length, take, filter, slice_get, slice_index_or}
-use Rattle.std.proofs.Common.{slice_set, refl, sym, ap, ◌∙◌, subst, inl, inr, arith, eq-eqb, eqb-true, get_or}
+use Rattle.std.proofs.Common.{Option, Some, None, List, [], ◌∷◌, ◌++◌, length, take, slice_get, slice_index_or}
+use Rattle.std.proofs.Common.{refl, sym, ap, ◌∙◌, subst, inl, inr, arith, eqb-true, get_or}
 use Rattle.std.proofs.lemmas.{List.{length-set, get_or-set_other, get_or-set_same, length_push, Sums.{count_by-le-length, length-filter}}}
-use Rattle.std.proofs.lemmas.{Bool.{or_cases, Decides.nat_tests}, Option.none-some}
+use Rattle.std.proofs.lemmas.{Bool.{or_cases, Decides.nat_tests}}
 use Rattle.race_records.specs.declared.event.{Event.Event, Op.{Op, TheVariants.{Read, Write}}}
 use Rattle.race_records.specs.declared.trace.TheConstants.{MAX_EVENTS}
-use Rattle.race_model.specs.Events.{At, partner, gives, takes_part, accesses, reads, writes}
-use Rattle.race_model.specs.{Clocks.participations, Predict.{execution_of, finding, told, DoesTheSame, AsksTheSame}}
+use Rattle.race_model.specs.Events.{At, partner, gives, takes_part, accesses, writes}
+use Rattle.race_model.specs.{Clocks.participations, Predict.{execution_of, finding, told, AsksTheSame}}
 use Rattle.race_model.proofs.{ClockLemmas.participations_push, Indexes.push_at}
 use Rattle.race_model.proofs.PredictLemmas.{at_in_part, filter_push, filter_drop}
 use Rattle.race_predict.specs.{Fronts.{Counts, one_more, counted, IsFront, IsPosition}, declared.positions.Position.Position}

@@ -3,3 +3,4 @@ pub mod AttemptLemmas
 pub mod EndLemmas
 pub mod PositionLemmas
 pub mod UnracedLemmas
+pub mod ShownLemmas

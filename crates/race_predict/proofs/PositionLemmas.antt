@@ -1,9 +1,9 @@
 -- Positions, counted event by event.
-use Rattle.std.proofs.Common.{◌≡◌, ◌+◌, ◌<◌, ◌≤◌, ℕ, IfSome, Option, Some, List, [], ◌∷◌, ◌++◌, length, take, slice_get}
+use Rattle.std.proofs.Common.{◌≡◌, ◌+◌, ◌<◌, ◌≤◌, ℕ, IfSome, List, [], ◌∷◌, ◌++◌, length, take, slice_get}
 use Rattle.std.proofs.Common.{slice_index_or, sym, ap, ◌∙◌, subst, inl, inr, arith}
 use Rattle.std.proofs.lemmas.{List.{length_push, length-take-le}, Option.slice_get_within}
 use Rattle.race_records.specs.declared.{event.Event.Event, trace.TheConstants.MAX_EVENTS}
-use Rattle.race_model.{specs.{Events.{At, partner}, Clocks.participations}, proofs.Indexes.{push_at, at_same}}
+use Rattle.race_model.{specs.{Events.{At, partner}}, proofs.Indexes.{push_at, at_same}}
 use Rattle.race_legal.proofs.Fronts.{take_next}
 use Rattle.race_predict.specs.{declared.positions.Position.Position, Fronts.{Counts, counted, IsPosition, ArePositions}}
 use Rattle.race_predict.proofs.FrontLemmas.{counts_go_on}

@@ -1,6 +1,6 @@
 -- A variable that no race of a verdict names has none.
-use Rattle.std.proofs.Common.{◌≡◌, ◌≢◌, ◌==◌, ◌||◌, ℕ, zero, suc, Bool, true, false, List, [], ◌∷◌, Some, map, slice_get, sym, ap}
-use Rattle.std.proofs.{Common.{◌∙◌, eq-eqb, true≢false, refl}, lemmas.Bool.{or_left, or_right}}
+use Rattle.std.proofs.Common.{◌≡◌, ◌==◌, ℕ, zero, suc, Bool, true, false, List, [], ◌∷◌, Some, map, slice_get, sym, ap}
+use Rattle.std.proofs.{Common.{◌∙◌, eq-eqb, true≢false}, lemmas.Bool.{or_left, or_right}}
 use Rattle.std.specs.List.{list_any}
 use Rattle.race_records.specs.declared.event.Event.{Event}
 use Rattle.race_model.specs.{Race.IsRace, Verdict.IsVerdict}

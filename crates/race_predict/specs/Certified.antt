@@ -3,6 +3,7 @@ use Rattle.std.specs.Prelude.{ℕ, ◌≡◌, List, length, slice_get, Some}
 use Rattle.race_records.specs.{declared.event.Event.Event, Events.TraceState}
 use Rattle.race_model.specs.{Events.At, Predict.{told, CouldHaveRun, EndsWithRace, IsPrediction}}
 use Rattle.race_verdict.specs.Traces.{capacities}
+use Rattle.race_predict.specs.declared.prediction.Prediction.{Prediction}
 
 -- event k of the other list is the recorded event whose index stands at k, but for what a read finds
 pub record IsMadeOf (recorded : List Event) (order : List ℕ) (other : List Event) : Type 0 where
@@ -21,3 +22,11 @@ pub record IsCertificate (recorded : TraceState) (x : ℕ) (order : List ℕ) (t
   pub decls : trace.decls ≡ recorded.decls
   pub prediction : IsPrediction (capacities recorded) recorded.events x trace.events
   pub made : IsMadeOf recorded.events order trace.events
+
+-- a run shows a race of the prediction, on this variable
+abbrev pub IsShown : {A : Type 0} → TraceState → ℕ → Prediction A → Type 0
+IsShown recorded x p = (p.var ≡ x) × ((trace : TraceState) × IsRunWithRace recorded p.var p.order.items trace)
+
+-- the prediction has a certificate
+abbrev pub IsPredicted : {A : Type 0} → TraceState → Prediction A → Type 0
+IsPredicted recorded p = (trace : TraceState) × IsCertificate recorded p.var p.order.items trace

@@ -39,8 +39,8 @@ impl<A: Allocator> Model for Attempt<A> {
     ghost view = { λ a. record { replay = a.replay; trace = a.trace; taken = a.taken.items } };
 }
 
-// Whether the two are accesses of the variable by two goroutines, and one of them writes.
-fn do_conflict(first: &Event, second: &Event, var: u32) -> bool
+/// Whether the two are accesses of the variable by two goroutines, and one of them writes.
+pub(crate) fn do_conflict(first: &Event, second: &Event, var: u32) -> bool
     ensures first { IsTrue result → IsTrue (accesses var first.now.op) }
     ensures second { IsTrue result → IsTrue (accesses var second.now.op) }
     ensures write { IsTrue result → IsTrue (writes var first.now.op || writes var second.now.op) }

@@ -36,8 +36,8 @@ pub fn certificate<A: Allocator + Copy>(
     Ok(trace)
 }
 
-// Whether the verdict names a race on the variable, or tells of none because the trace is illegal.
-fn may_race<A: Allocator>(verdict: &Verdict<A>, var: u32) -> bool
+/// Whether the verdict names a race on the variable, or tells of none because the trace is illegal.
+pub(crate) fn may_race<A: Allocator>(verdict: &Verdict<A>, var: u32) -> bool
     ensures { result ≡ false → (caps : ℕ → ℕ) (events : List Event) → IsVerdict caps events (verdict_of verdict.now)
         → (i j : ℕ) → ¬ IsRace caps events var i j }
 {

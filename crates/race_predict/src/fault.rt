@@ -6,11 +6,8 @@ use thiserror::Error;
 /// Why there is no prediction or no certificate.
 #[derive(Clone, Copy, Debug, PartialEq, Eq, Error)]
 pub enum PredictFault {
-    /// The recorded trace is illegal.
-    #[error("the trace is illegal")]
-    Illegal,
     /// It fails its test: no run of the recorded goroutines is made of these events, or it doesn't end with a race on the variable, or
-    /// the recorded trace has a race on it.
+    /// the recorded trace has a race on it or is illegal.
     #[error("this is no prediction")]
     NotAPrediction,
     /// A growth was refused.

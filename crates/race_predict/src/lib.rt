@@ -4,13 +4,28 @@
 //! passes is a trace of its own, which a judge takes.
 #![tactic(auto)]
 
+mod accesses;
 mod attempt;
 mod certify;
+mod closure;
+mod course;
 mod fault;
+mod known;
+mod locksets;
+mod pairs;
 mod parts;
 mod positions;
 mod prediction;
+mod proposal;
+mod scene;
+mod search;
+mod seconds;
+mod shared;
+mod steps;
+mod turned;
+mod wants;
 
 pub use certify::certificate;
 pub use fault::PredictFault;
-pub use prediction::Prediction;
+pub use prediction::{Prediction, Predictions};
+pub use search::{predict, predict_on};

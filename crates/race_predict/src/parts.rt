@@ -4,7 +4,7 @@ ghost use Rattle.race_model.specs.Predict.{finding, told};
 ghost use Rattle.race_predict.specs.Fronts.{one_more, counted};
 ghost use Rattle.race_model.specs.Events as events;
 
-use race_records::{Event, Op, op_by, says};
+use race_records::{Event, Op};
 use std::alloc::Allocator;
 
 /// The second participant: the goroutine that a `Go` starts, or the receiver of a `Meet`.
@@ -42,10 +42,28 @@ pub(crate) fn count_parts<A: Allocator>(counts: &mut Vec<u32, A>, event: &Event)
 fn copy_op(op: &Op) -> Op
     ensures { result ≡ op.now }
 {
-    let (keyword, operands) = says(op);
-    match op_by(keyword, operands.as_slice()) {
-        Some(copy) => copy,
-        None => unreachable!(),
+    match op {
+        Op::Go(goroutine) => Op::Go(*goroutine),
+        Op::Exit => Op::Exit,
+        Op::Read(var, value) => Op::Read(*var, *value),
+        Op::Write(var, value) => Op::Write(*var, *value),
+        Op::Send(chan, value) => Op::Send(*chan, *value),
+        Op::Recv(chan, value) => Op::Recv(*chan, *value),
+        Op::Meet(receiver, chan, value) => Op::Meet(*receiver, *chan, *value),
+        Op::RecvClosed(chan) => Op::RecvClosed(*chan),
+        Op::Close(chan) => Op::Close(*chan),
+        Op::Default(cases) => Op::Default(cases.copy()),
+        Op::Lock(lock) => Op::Lock(*lock),
+        Op::Unlock(lock) => Op::Unlock(*lock),
+        Op::RLock(lock) => Op::RLock(*lock),
+        Op::RUnlock(lock) => Op::RUnlock(*lock),
+        Op::TryLock(lock) => Op::TryLock(*lock),
+        Op::TryRLock(lock) => Op::TryRLock(*lock),
+        Op::TryFail(lock) => Op::TryFail(*lock),
+        Op::OnceBegin(once) => Op::OnceBegin(*once),
+        Op::OnceEnd(once) => Op::OnceEnd(*once),
+        Op::OnceDone(once) => Op::OnceDone(*once),
+        Op::Fault(cause) => Op::Fault(*cause),
     }
 }
 

@@ -7,6 +7,7 @@ pub mod ListLemmas
 pub mod DeclFaultLemmas
 pub mod DeclsKept
 pub mod PlaceLemmas
+pub mod AnswerLemmas
 pub mod EventLemmas
 pub mod AlikeLemmas
 pub mod CaseLemmas

@@ -45,7 +45,8 @@ alone_again kind (Operand.Object named ∷ []) n e =
     ap (λ name. Operand.Object name ∷ []) (named_again kind named is.0 ∙ ap (named_by kind) is.1)
 alone_again kind _ n e = absurd (none-some n e)
 
-pub valued_again : (kind : Kind) (operands : List Operand) (p : ℕ × ℕ) → object_value kind operands ≡ Some p → operands ≡ Operand.Object (named_by kind p.0) ∷ Operand.Value p.1 ∷ []
+pub valued_again : (kind : Kind) (operands : List Operand) (p : ℕ × ℕ) → object_value kind operands ≡ Some p
+    → operands ≡ Operand.Object (named_by kind p.0) ∷ Operand.Value p.1 ∷ []
 valued_again kind (Operand.Object named ∷ Operand.Value v ∷ []) p e =
     let is = chosen (is_named kind named) (number_of named, v) p e in
     (λ i. Operand.Object ((named_again kind named is.0 ∙ ap (λ (q : ℕ × ℕ). named_by kind q.0) is.1) i) ∷ Operand.Value (is.1 i).1 ∷ [])

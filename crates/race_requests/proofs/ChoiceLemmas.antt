@@ -73,7 +73,8 @@ each_of (x ∷ xs) = (tt, each_of xs)
 branches_of_tuples : (n : ℕ) (branches : ℕ → ℕ) → Each (λ t. t.offer < branches t.place) (tuples n branches)
 branches_of_tuples n branches =
     each_flat_map (λ _. Unit {0}) (λ t. t.offer < branches t.place) (λ w. flat_map (of_branch n branches w) (below (branches w))) (below n) (each_of (below n))
-    (λ w _. each_flat_map (λ k. k < branches w) (λ t. t.offer < branches t.place) (of_branch n branches w) (below (branches w)) (each_below (branches w) 0 (branches w) (omega arith))
+    (λ w _. each_flat_map (λ k. k < branches w) (λ t. t.offer < branches t.place) (of_branch n branches w) (below (branches w))
+    (each_below (branches w) 0 (branches w) (omega arith))
     (λ k less. (
       less,
       each_flat_map (λ _. Unit {0}) (λ t. t.offer < branches t.place) (with_partner branches w k) (below n) (each_of (below n))

@@ -1,6 +1,7 @@
 pub mod OfferLemmas
 pub mod RangeLemmas
 pub mod RowLemmas
+pub mod SomeRow
 pub mod FoundLemmas
 pub mod PossibleLemmas
 pub mod WaitingLemmas

@@ -3,8 +3,8 @@ use Rattle.std.proofs.Common.{◌≡◌, ℕ, ◌<◌, ◌&&◌, nat_lt, cond, B
 use Rattle.std.proofs.{Common.{ap, subst, ◌∙◌, slice_get, arith}, lemmas.{Bool.Decides.nat_tests, Option.none-some}}
 use Rattle.race_records.specs.declared.{event.{Event.Event, Op.{Op, TheVariants.{Recv, RecvClosed}}}, kind.Kind.Kind}
 use Rattle.race_records.specs.Operands.{op_is_in_range}
-use Rattle.race_legal.specs.ReplayState.{IsInRange}
-use Rattle.race_requests.specs.{declared.request.Waiter.Waiter, Table.offers_of, Choices.meet_event}
+use Rattle.race_legal.specs.ReplayState.{ReplayState, counts_in, IsInRange}
+use Rattle.race_requests.specs.{declared.request.{Ask.Ask, Waiter.Waiter}, Table.offers_of, Choices.meet_event}
 use Rattle.race_requests.{specs.Possible.ask_is_in_range, proofs.OfferLemmas.sent_in_range}
 use Rattle.race_requests.proofs.ChoiceLemmas.{some_is, meets_by, is_meet}
 
@@ -45,3 +45,10 @@ module _ (counts : Kind → ℕ) where
           let runs : nat_lt r.who (counts Kind.Goroutine) ≡ true = grind (arith, nat_tests) in
           subst (IsInRange counts) (sym (some_is is))
           (who, ap (op_is_in_range counts) met.op_is ∙ both _ _ runs chan)
+
+-- so too where the request is in range, and names what both name
+pub one_of : (k : ReplayState) (b : Bool) (this that : Op) {ask same : Ask} {op : Op} → op ≡ cond b this that → ask ≡ same
+    → ask_is_in_range (counts_in k) ask ≡ true → op_is_in_range (counts_in k) this ≡ (ask_is_in_range (counts_in k) same && true)
+    → op_is_in_range (counts_in k) that ≡ (ask_is_in_range (counts_in k) same && true) → op_is_in_range (counts_in k) op ≡ true
+one_of k b this that is asks range p q =
+    let less = alone _ (ap (ask_is_in_range (counts_in k)) (sym asks) ∙ range) in either (counts_in k) b this that _ is (p ∙ less) (q ∙ less)

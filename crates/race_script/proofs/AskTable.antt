@@ -1,12 +1,12 @@
 -- The table of what asks say, and its way back; and the table of the words of lines.
-use Rattle.std.proofs.Common.{◌≡◌, ℕ, ◌^◌, ◌&&◌, Bool, true, false, true≢false, nat_lt, if◌then◌else◌, List, [], ◌∷◌}
+use Rattle.std.proofs.Common.{◌≡◌, ℕ, ◌&&◌, Bool, true, false, true≢false, if◌then◌else◌, List, [], ◌∷◌}
 use Rattle.std.proofs.Math.Bool.{and-true}
 use Rattle.std.proofs.Common.{◌++◌, map, codes, Option, Some, None, IfSome, option_map, refl, sym, ap, subst, ◌∙◌}
 use Rattle.std.{proofs.lemmas.{Option.{none-some, same_Some}, Slice.Eq.bytes_eq-Decides}, specs.List.list_all}
 use Rattle.std.specs.{Option.option_and_then, Str.bytes_eq}
 use Rattle.race_records.specs.declared.{kind.{Kind.Kind, Named.Named}, operands.{Operand.Operand, OperandKind.OperandKind}}
 use Rattle.race_records.specs.declared.{version.Version.Version, decl_keywords.DeclKeyword.DeclKeyword}
-use Rattle.race_records.specs.{Declarations.{Declaration, counts_of, is_rw}, Name.is_place_byte, Operands.object_alone}
+use Rattle.race_records.specs.{Declarations.{Declaration}, Name.is_place_byte, Operands.object_alone}
 use Rattle.race_records.specs.Operands.{object_value, suit, operand_fits, operand_is_limited}
 use Rattle.race_records.proofs.OperandLaws.{named_by, alone_again, valued_again}
 use Rattle.race_requests.specs.{declared.request.{Ask.Ask, Offer.Offer}, Sound.has_ask}

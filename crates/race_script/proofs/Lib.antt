@@ -13,8 +13,10 @@ pub mod SelectLines
 pub mod AskTable
 pub mod SaidLines
 pub mod LineLemmas
+pub mod BegunLemmas
 pub mod TakingLemmas
 pub mod ReadLemmas
+pub mod HeaderLemmas
 pub mod TextFine
 pub mod LineCount
 pub mod SaidAgain

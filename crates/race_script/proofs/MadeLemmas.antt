@@ -1,9 +1,9 @@
 -- What was done in a step of a log, by its ask and its answer.
 use Rattle.std.proofs.Common.{◌≡◌, ℕ, ◌==◌, cond, Bool, true, false, List, Option, Some, None, slice_get, option_map}
-use Rattle.std.{proofs.Common.{◌⊎◌, ◌+◌, inl, inr, refl, sym, ap, subst, ◌∙◌}, specs.Option.option_and_then}
+use Rattle.std.{proofs.Common.{◌⊎◌, ◌+◌, inl, inr, refl, sym, ap, ◌∙◌}, specs.Option.option_and_then}
 use Rattle.race_records.specs.declared.event.Cause.{Cause, TheVariants.{SendClosed, CloseClosed, CloseNil, UnlockFree}}
 use Rattle.race_records.specs.declared.event.{Cause.TheVariants.RUnlockFree, Op.{Op, TheVariants.{Go, Exit, Read}}}
-use Rattle.race_records.specs.declared.event.Op.TheVariants.{Write, Send, Recv, Meet, RecvClosed, Close, Default, Lock}
+use Rattle.race_records.specs.declared.event.Op.TheVariants.{Write, Send, Recv, Meet, RecvClosed, Close, Lock}
 use Rattle.race_records.specs.declared.event.Op.TheVariants.{Unlock, RLock, RUnlock, TryLock, TryRLock, TryFail}
 use Rattle.race_records.specs.declared.event.Op.TheVariants.{OnceBegin, OnceEnd, OnceDone, Fault}
 use Rattle.race_requests.specs.{declared.request.{Answer.Answer, Ask.Ask, Offer.Offer}, Table.{done_by, IsRow, chosen}}

@@ -1,5 +1,5 @@
 -- The test of two asks holds where they are the same, and there alone.
-use Rattle.std.proofs.Common.{◌≡◌, ◌==◌, ◌&&◌, ℕ, Bool, true, false, Option, Some, None, Decides, refl, sym, ap}
+use Rattle.std.proofs.Common.{◌≡◌, ◌==◌, ℕ, Option, Some, None, Decides, refl, sym, ap}
 use Rattle.std.{proofs.{Common.true≢false, lemmas.Bool.Decides.{Decides-eqb, Decides-and}}, specs.{Bool.beq, Cmp.booleans_Decides}}
 use Rattle.race_records.specs.Cases.{same_chan}
 use Rattle.race_requests.specs.{declared.request.Ask.Ask, Offers.{same_offers, same_offers-Decides}}

@@ -18,7 +18,7 @@ use Rattle.race_script.specs.declared.{form.{StepKeyword.StepKeyword, LineKeywor
 use Rattle.race_script.specs.{Bodies.{is_exit, after_ask}, Fault.{words_cause, has_no_room, may_follow, may_begin}}
 use Rattle.race_script.specs.Fault.{said_cause, asked_cause, cause, program_causes, text_fault, is_whole}
 use Rattle.race_script.specs.{Form.{line_word, line_word_in, on_nil, ask_fields, begin_fields}, Offers.select_words}
-use Rattle.race_script.specs.{Program.{Instruction, Draft, ask_fits, bodies_of}, Reader.{UnendedState, ReadState}}
+use Rattle.race_script.specs.{Program.{Instruction, Draft, ask_fits, bodies_of}, Reader.{UnendedState, ReadState, Adds}}
 use Rattle.race_script.specs.Reader.{draft_read, spelled_unended, program_read, IsRead, HasWords, TakesLine}
 use Rattle.race_script.specs.{Reading.{version_said, selected_in}, Text.{header, Said, Begins, Asks, lines, draft_text}}
 use Rattle.race_script.{specs.Text.IsProgramText, proofs.LineLemmas.{IsSaidLine, cause_behind, begins_line, asks_line}}
@@ -77,11 +77,10 @@ module _ (s : ReadState) (header_is : s.has_header ≡ true) (read : IsRead s) (
           let there = begun_is_there ds words e in
           let is = begins_line s.decls read.sound.well_formed line words there.0 has there.1 in
           let may = begun there.0 is (may_begin d there.0) refl (said_fine (Begins there.0) is) in
-          let new : ReadState = record { has_header = true; decls = s.decls; ended = s.ended; unended = Some (record { requests = []; onces = [] }) } in
           record {
-            next = new;
-            takes = said_taken s read line (Begins there.0) new is
-                (begin_taken s read.sound there.0 (is_begun s.decls read.sound.well_formed words there.0 there.1).less may new refl refl refl refl);
+            next = _;
+            takes = said_taken s read line (Begins there.0) _ is
+                (begin_taken s read.sound there.0 (is_begun s.decls read.sound.well_formed words there.0 there.1).less may);
           }
 
   with_asked : (i : Instruction) → IsSaidLine (declared s.decls) line (Asks i) → ask_fits ds i.ask ≡ true → is_place i.place ≡ true
@@ -99,43 +98,32 @@ module _ (s : ReadState) (header_is : s.has_header ≡ true) (read : IsRead s) (
       tests u is_left false true c e f g h = absurd (none-some TextCause.TooMany (sym h))
       tests u is_left true b c e f g h = absurd (none-some TextCause.TooMany (sym h))
 
+      added : (u : UnendedState) → length u.requests < MAX_STEPS → place_fault s.decls.places i.place ≡ None → may_follow (Some (reverse u.onces)) i.ask ≡ true
+          → (inside : List ℕ) → (is_exit i.ask ≡ false → after_ask (reverse u.onces) i.ask ≡ Some (reverse inside))
+          → Adds s.decls u i (with_place s.decls i.place)
+          (record { requests = u.requests ++ record { ask = i.ask; place = place_number s.decls.places i.place } ∷ []; onces = inside })
+      added u few room follows inside entered =
+          record { few = few; room = room; place = refl; pushes = record { follows = follows; added = refl; entered = entered } }
+
       goes : (u : UnendedState) → s.unended ≡ Some u → length u.requests < MAX_STEPS → place_fault s.decls.places i.place ≡ None
           → may_follow (Some (reverse u.onces)) i.ask ≡ true → (b : Bool) → is_exit i.ask ≡ b → (o : Option (List ℕ)) → after_ask (reverse u.onces) i.ask ≡ o
           → (if b then length (reverse u.onces) == 0 else is_some o) ≡ true → IsNext s line
-      goes u is_left few room follows true exit o e h =
-          let new : ReadState = record {
-            has_header = true;
-            decls = with_place s.decls i.place;
-            ended = s.ended ++ (u.requests ++ record { ask = i.ask; place = place_number s.decls.places i.place } ∷ []) ∷ [];
-            unended = None;
-          } in
-          record {
-            next = new;
-            takes = said_taken s read line (Asks i) new is
-                (ended_taken s read.sound u is_left i fits form known few room follows new refl refl exit refl refl);
-          }
+      goes u is_left few room follows true exit o e h = record {
+        next = _;
+        takes = said_taken s read line (Asks i) _ is (ended_taken s read.sound u is_left i fits form known
+            (added u few room follows [] (λ other. absurd (true≢false (sym exit ∙ other)))) exit);
+      }
       goes u is_left few room follows false other None e h = absurd (true≢false (sym h))
-      goes u is_left few room follows false other (Some inside) e h =
-          let new : ReadState = record {
-            has_header = true;
-            decls = with_place s.decls i.place;
-            ended = s.ended;
-            unended = Some (record {
-              requests = u.requests ++ record { ask = i.ask; place = place_number s.decls.places i.place } ∷ [];
-              onces = reverse inside;
-            });
-          } in
-          record {
-            next = new;
-            takes = said_taken s read line (Asks i) new is
-                (more_taken s read.sound u is_left i fits form known few room follows new refl refl
-                (reverse inside) other (e ∙ ap Some (sym (reverse-reverse inside))) refl refl);
-          }
+      goes u is_left few room follows false other (Some inside) e h = record {
+        next = _;
+        takes = said_taken s read line (Asks i) _ is (more_taken s read.sound u is_left i fits form known
+            (added u few room follows (reverse inside) (λ _. e ∙ ap Some (sym (reverse-reverse inside)))) other);
+      }
 
       by : (o : Option UnendedState) → s.unended ≡ o → IsNext s line
       by None e = absurd (none-some TextCause.BadBlock (sym fine ∙ ap (λ o. asked_cause d i (spelled_unended s.decls.places o)) e))
       by (Some u) e =
-          let three = tests u e _ _ _ refl refl refl (sym (asked_cause_is s read.sound u e i fits form _ _ _ refl refl refl) ∙ fine) in
+          let three = tests u e _ _ _ refl refl refl (sym (asked_cause_is s read.sound u e i fits form) ∙ fine) in
           goes u e (grind (arith, nat_tests, three.0)) (not_full s.decls.places i.place form three.1)
           three.2 (is_exit i.ask) refl (after_ask (reverse u.onces) i.ask) refl three.2
 

@@ -55,7 +55,8 @@ module _ (body : List Instruction) (places : List (List ℕ)) (g : ℕ) (part : 
             ∙ ap (behind (asked_by body)) (sym next);
       }
 
-  pub stuck_inside : (waiting : Option Request) (k p : ℕ) (e : Event) → slice_get part k ≡ Some e → IsAlong k p → IsPassed body places g p e None → IsStuckAt body places g part waiting p
+  pub stuck_inside : (waiting : Option Request) (k p : ℕ) (e : Event) → slice_get part k ≡ Some e → IsAlong k p → IsPassed body places g p e None
+      → IsStuckAt body places g part waiting p
   stuck_inside waiting k p e at along misfit = inl (k, e, at, along.follows, along.position, misfit)
 
   -- all pass, and what waits is asked behind them or isn't

@@ -5,20 +5,20 @@ use Rattle.std.proofs.Common.{None, IfSome, refl, sym, ap, subst, ◌∙◌, ari
 use Rattle.std.proofs.{Common.{is_none, ◌⊎◌, inl, inr, Ok, Err}, lemmas.Bool.Decides.nat_tests}
 use Rattle.std.proofs.lemmas.List.{length-append, length-map, map-append, Folds.list_all-append, Sums.fold-append}
 use Rattle.std.proofs.lemmas.{Grind.flat_map-append, Option.{none-some, same_Some, slice_get_within}}
-use Rattle.std.specs.{List.{list_all, flat_map}, Prelude.reverse, Option.{option_and_then, option_map, option_map_or}}
+use Rattle.std.specs.{List.{list_all, flat_map}, Prelude.reverse, Option.{option_and_then, option_map_or}}
 use Rattle.race_records.specs.declared.{declarations.{DeclFault.DeclFault, TheConstants.MAX_PLACES}, kind.Kind.Kind}
-use Rattle.race_records.specs.Declarations.{DeclsState, IsWellFormed, count_of, is_known, place_fault, place_number}
+use Rattle.race_records.specs.Declarations.{DeclsState, count_of, is_known, place_fault, place_number}
 use Rattle.race_records.specs.{Declarations.{with_place as with_place_in}, Name.is_place}
 use Rattle.race_records.{specs.Refusal.{Refuses, AllowsUnless}, proofs.PlaceLemmas.with_place_well_formed}
 use Rattle.race_requests.specs.{declared.request.{Ask.Ask, Request.Request}, Sound.has_ask}
 use Rattle.race_text.{specs.declared.cause.TextCause.TextCause, proofs.CauseLemmas.and_then_some}
 use Rattle.race_text.proofs.{PlacesAdded.{place_is_there, place_stays, place_grows}, WordLemmas.both}
 use Rattle.race_script.specs.{declared.program.TheConstants.MAX_STEPS, Bodies.{is_exit, after_ask, onces_after, ends}}
-use Rattle.race_script.specs.{Bodies.is_body, Fault.{has_no_room, may_follow, may_begin, asked_cause, said_cause}}
+use Rattle.race_script.specs.{Bodies.is_body, Fault.{has_no_room, follow_cause, may_follow, may_begin, asked_cause, said_cause}}
 use Rattle.race_script.specs.Program.{Instruction, Draft, asks_of, asked_by, ask_fits, request_fits, is_body_of}
 use Rattle.race_script.specs.{Program.{instruction, spelled, bodies_of, with_place, places_of}, Reader.UnendedState}
-use Rattle.race_script.specs.Reader.{ReadState, spelled_unended, draft_read, IsUnended, IsSound, TakesSaid}
-use Rattle.race_script.{specs.{Reading.{with_instruction, with_said}, Text.{Begins, Asks}}, proofs.{LineLemmas.grown, CourseLemmas.asks_spelled}}
+use Rattle.race_script.specs.Reader.{ReadState, spelled_unended, draft_read, IsUnended, IsSound, TakesSaid, Adds, added_cause}
+use Rattle.race_script.{specs.{Reading.{with_instruction}, Text.{Begins, Asks}}, proofs.{LineLemmas.grown, CourseLemmas.asks_spelled}}
 
 -- the asks go on where others left
 pub onces_more : (onces : List ℕ) (asks : List Ask) (ask : Ask)
@@ -163,21 +163,21 @@ module _ (s : ReadState) (sound : IsSound s) (u : UnendedState) (is : s.unended 
   asked_open : onces_after [] (asked_by body) ≡ Some (reverse u.onces)
   asked_open = ap (onces_after []) (asks_spelled s.decls.places u.requests) ∙ unended.nest
 
-  -- the cause, by the tests of the code
-  pub asked_cause_is : (a b c : Bool) → nat_le MAX_STEPS (length u.requests) ≡ a
-      → has_no_room s.decls.places i.place ≡ b → may_follow (Some (reverse u.onces)) i.ask ≡ c
-      → said_cause d (Asks i) ≡ (if a || b then Some TextCause.TooMany else (if c then None else Some TextCause.BadBlock))
-  asked_cause_is a b c full no_room follows =
-      let len : length body ≡ length u.requests = length-map u.requests (instruction s.decls.places) in
+  -- the cause, by what the body has
+  pub asked_cause_is : said_cause d (Asks i) ≡ added_cause s.decls u i
+  asked_cause_is =
       ap (asked_cause d i) body_is
-      ∙ (λ k. if (ap (nat_le MAX_STEPS) len ∙ full) k || (ap (λ places. has_no_room places i.place) sound.places ∙ no_room) k then Some TextCause.TooMany
-      else (if (ap (λ o. may_follow o i.ask) asked_open ∙ follows) k then None else Some TextCause.BadBlock))
+      ∙ (λ k. if nat_le MAX_STEPS (length-map u.requests (instruction s.decls.places) k) || has_no_room (sound.places k) i.place
+      then Some TextCause.TooMany else follow_cause (asked_open k) i.ask)
 
-  module _ (known : has_ask s.decls.version i.ask ≡ true) (few : length u.requests < MAX_STEPS) (room : place_fault s.decls.places i.place ≡ None)
-      (follows : may_follow (Some (reverse u.onces)) i.ask ≡ true) where
-    no_cause : said_cause d (Asks i) ≡ None
-    no_cause = asked_cause_is false false true (grind (arith, nat_tests, few)) (room_is s.decls.places i.place form room) follows
+  pub no_cause : {more : DeclsState} {v : UnendedState} → Adds s.decls u i more v → said_cause d (Asks i) ≡ None
+  no_cause adds =
+      let few = adds.few in
+      let low : nat_le MAX_STEPS (length u.requests) ≡ false = grind (arith, nat_tests, few) in
+      asked_cause_is ∙ (λ k. if low k || room_is s.decls.places i.place form adds.room k then Some TextCause.TooMany
+      else (if adds.pushes.follows k then None else Some TextCause.BadBlock))
 
+  module _ (known : has_ask s.decls.version i.ask ≡ true) {more : DeclsState} {v : UnendedState} (adds : Adds s.decls u i more v) where
     stay : (list_all (request_fits grown_decls) u.requests ≡ true) × (spelled grown_decls.places u.requests ≡ body)
     stay = requests_stay s.decls i.place u.requests unended.fit
 
@@ -217,113 +217,80 @@ module _ (s : ReadState) (sound : IsSound s) (u : UnendedState) (is : s.unended 
         by true low = let n = length-append d.ended ((body ++ i ∷ []) ∷ []) in omega (arith, n, low)
         by false low = let n = length-append d.ended ((body ++ i ∷ []) ∷ []) in omega (arith, n, low)
 
-    module _ (new : ReadState) (header : new.has_header ≡ true) (decls_are : new.decls ≡ grown_decls) where
-      said_is : (b : Bool) → is_exit i.ask ≡ b → with_said d (Asks i) ≡ grown d i body b
-      said_is b e = ap (with_instruction d i) body_is ∙ ap (grown d i body) e
+    -- with its place, and these bodies
+    abbrev made : List (List Request) → Option UnendedState → ReadState
+    made ended left = record { has_header = true; decls = grown_decls; ended = ended; unended = left }
 
-      finish : (b : Bool) → is_exit i.ask ≡ b → draft_read new ≡ grown d i body b
-          → list_all (is_body_of new.decls) new.ended ≡ true → IfSome new.unended (IsUnended new.decls) → TakesSaid s (Asks i) new
-      finish b e draft bodies left =
-          record {
-            header = header;
-            no_cause = no_cause;
-            draft = draft ∙ sym (said_is b e);
-            sound = record {
-              well_formed = subst IsWellFormed (sym decls_are) (with_place_well_formed s.decls i.place sound.well_formed room);
-              ended = bodies;
-              unended = left;
-              places = ap places_of draft ∙ places_grown d i body b body_is
-                  ∙ ap (λ places. with_place places i.place) sound.places ∙ ap (λ (x : DeclsState). x.places) (sym decls_are);
-              few = let low = few_bodies b in
-                  let same = ap (λ (x : Draft). length (bodies_of x)) draft in
-                  let count = ap (λ (x : DeclsState). count_of Kind.Goroutine x.declarations) decls_are in
-                  omega (arith, low, same, count);
-            };
-          }
+    finish : (b : Bool) (ended : List (List Request)) (left : Option UnendedState) → is_exit i.ask ≡ b → draft_read (made ended left) ≡ grown d i body b
+        → list_all (is_body_of grown_decls) ended ≡ true → IfSome left (IsUnended grown_decls) → TakesSaid s (Asks i) (made ended left)
+    finish b ended left e draft bodies fine =
+        record {
+          header = refl;
+          no_cause = no_cause adds;
+          draft = draft ∙ sym (ap (with_instruction d i) body_is ∙ ap (grown d i body) e);
+          sound = record {
+            well_formed = with_place_well_formed s.decls i.place sound.well_formed adds.room;
+            ended = bodies;
+            unended = fine;
+            places = ap places_of draft ∙ places_grown d i body b body_is ∙ ap (λ places. with_place places i.place) sound.places;
+            few =
+                let low = few_bodies b in
+                let same = ap (λ (x : Draft). length (bodies_of x)) draft in
+                omega (arith, low, same);
+          };
+        }
 
-      -- an exit ends the body
-      pub ended_taken : is_exit i.ask ≡ true → new.ended ≡ s.ended ++ requests ∷ [] → new.unended ≡ None → TakesSaid s (Asks i) new
-      ended_taken exit ended none =
-          finish true exit
-          ((λ k. record {
-            version = (decls_are k).version;
-            declarations = (decls_are k).declarations;
-            ended = map (spelled (decls_are k).places) (ended k);
-            unended = spelled_unended (decls_are k).places (none k);
-          })
-          ∙ (λ k. record {
-            version = s.decls.version;
-            declarations = s.decls.declarations;
-            ended = (map-append (spelled grown_decls.places) s.ended (requests ∷ []) ∙ (λ j. ended_stay.1 j ++ spelled_more j ∷ [])) k;
-            unended = None;
-          }))
-          ((λ k. list_all (is_body_of (decls_are k)) (ended k))
-          ∙ list_all-append (is_body_of grown_decls) s.ended (requests ∷ [])
-          ∙ (λ k. ended_stay.0 k && (whole k && true)))
-          (subst (λ (o : Option UnendedState). IfSome o (IsUnended new.decls)) (sym none) tt)
-        where
-          whole : is_body_of grown_decls requests ≡ true
-          whole =
-              let body_ok : is_body (asks_of requests) ≡ true = ap is_body asks_more
-              ∙ body_ends (asks_of u.requests) (reverse u.onces) i.ask unended.nest exit follows in
-              let few_ok : nat_le (length requests) MAX_STEPS ≡ true = grind (arith, nat_tests, few, len_more) in
-              λ k. all_fit k && body_ok k && few_ok k
+    -- an exit ends the body
+    pub ended_taken : is_exit i.ask ≡ true → TakesSaid s (Asks i) (made (s.ended ++ requests ∷ []) None)
+    ended_taken exit =
+        finish true (s.ended ++ requests ∷ []) None exit
+        (λ k. record {
+          version = s.decls.version;
+          declarations = s.decls.declarations;
+          ended = (map-append (spelled grown_decls.places) s.ended (requests ∷ []) ∙ (λ j. ended_stay.1 j ++ spelled_more j ∷ [])) k;
+          unended = None;
+        })
+        (list_all-append (is_body_of grown_decls) s.ended (requests ∷ []) ∙ (λ k. ended_stay.0 k && (whole k && true))) tt
+      where
+        whole : is_body_of grown_decls requests ≡ true
+        whole =
+            let body_ok : is_body (asks_of requests) ≡ true = ap is_body asks_more
+            ∙ body_ends (asks_of u.requests) (reverse u.onces) i.ask unended.nest exit adds.pushes.follows in
+            let few_ok : nat_le (length requests) MAX_STEPS ≡ true = grind (arith, nat_tests, adds.few, len_more) in
+            λ k. all_fit k && body_ok k && few_ok k
 
-      -- anything else lets it go on
-      pub more_taken : (inside : List ℕ) → is_exit i.ask ≡ false → after_ask (reverse u.onces) i.ask ≡ Some (reverse inside) → new.ended ≡ s.ended
-          → new.unended ≡ Some (record { requests = requests; onces = inside }) → TakesSaid s (Asks i) new
-      more_taken inside other entered ended left =
-          finish false other
-          ((λ k. record {
-            version = (decls_are k).version;
-            declarations = (decls_are k).declarations;
-            ended = map (spelled (decls_are k).places) (ended k);
-            unended = spelled_unended (decls_are k).places (left k);
-          })
-          ∙ (λ k. record { version = s.decls.version; declarations = s.decls.declarations; ended = ended_stay.1 k; unended = Some (spelled_more k) }))
-          ((λ k. list_all (is_body_of (decls_are k)) (ended k)) ∙ ended_stay.0)
-          (subst (λ (p : DeclsState × Option UnendedState). IfSome p.1 (IsUnended p.0)) (λ k. (sym decls_are k, sym left k)) (record {
-            fit = all_fit;
-            nest = ap (onces_after []) asks_more ∙ onces_more [] (asks_of u.requests) i.ask
-                ∙ ap (option_and_then (λ inside. after_ask inside i.ask)) unended.nest ∙ entered;
-            few = omega (arith, few, len_more);
-          }))
+    -- anything else lets it go on
+    pub more_taken : is_exit i.ask ≡ false → TakesSaid s (Asks i) (made s.ended (Some (record { requests = requests; onces = v.onces })))
+    more_taken other =
+        finish false s.ended (Some (record { requests = requests; onces = v.onces })) other
+        (λ k. record { version = s.decls.version; declarations = s.decls.declarations; ended = ended_stay.1 k; unended = Some (spelled_more k) })
+        ended_stay.0 (record {
+          fit = all_fit;
+          nest = ap (onces_after []) asks_more ∙ onces_more [] (asks_of u.requests) i.ask
+              ∙ ap (option_and_then (λ inside. after_ask inside i.ask)) unended.nest ∙ adds.pushes.entered other;
+          few = let few = adds.few in omega (arith, few, len_more);
+        })
 
 -- a body that begins
-pub begin_taken : (s : ReadState) (sound : IsSound s) (g : ℕ)
-    → g < count_of Kind.Goroutine s.decls.declarations → may_begin (draft_read s) g ≡ true → (new : ReadState)
-    → new.has_header ≡ true → new.decls ≡ s.decls → new.ended ≡ s.ended → new.unended ≡ Some (record { requests = []; onces = [] }) → TakesSaid s (Begins g) new
-begin_taken s sound g less may new header decls ended left =
+pub begin_taken : (s : ReadState) (sound : IsSound s) (g : ℕ) → g < count_of Kind.Goroutine s.decls.declarations → may_begin (draft_read s) g ≡ true
+    → TakesSaid s (Begins g) (record { has_header = true; decls = s.decls; ended = s.ended; unended = Some (record { requests = []; onces = [] }) })
+begin_taken s sound g less may =
     let d = draft_read s in
     let two = both (is_none d.unended) (length d.ended == g) may in
     let same : length d.ended ≡ g = grind (arith, nat_tests, two.1) in
-    let begun : Draft = record { version = d.version; declarations = d.declarations; ended = d.ended; unended = Some [] } in
-    let after : draft_read new ≡ begun =
-    λ k. record {
-      version = (decls k).version;
-      declarations = (decls k).declarations;
-      ended = map (spelled (decls k).places) (ended k);
-      unended = spelled_unended (decls k).places (left k);
-    } in
     let none : bodies_of d ≡ d.ended = not_begun d.unended two.0 d in
     let all : flat_map (λ x. x) (d.ended ++ [] ∷ []) ≡ flat_map (λ x. x) (bodies_of d) =
     flat_map-append (λ x. x) d.ended ([] ∷ []) ∙ append-nil (flat_map (λ x. x) d.ended) ∙ ap (flat_map (λ x. x)) (sym none) in
-    let places : places_of begun ≡ places_of d =
-    ap (fold (λ (places : List (List ℕ)) (i : Instruction). with_place places i.place) []) all in
     record {
-      header = header;
+      header = refl;
       no_cause = ap (λ b. if b then None else Some TextCause.BadBlock) may;
-      draft = after;
+      draft = refl;
       sound = record {
-        well_formed = subst IsWellFormed (sym decls) sound.well_formed;
-        ended = (λ k. list_all (is_body_of (decls k)) (ended k)) ∙ sound.ended;
-        unended = subst (λ (o : Option UnendedState). IfSome o (IsUnended new.decls)) (sym left) (record { fit = refl; nest = refl; few = omega arith });
-        places = ap places_of after ∙ places ∙ sound.places ∙ ap (λ (x : DeclsState). x.places) (sym decls);
-        few =
-            let len = ap (λ (x : Draft). length (bodies_of x)) after in
-            let one = length-append d.ended ([] ∷ []) in
-            let count = ap (λ (x : DeclsState). count_of Kind.Goroutine x.declarations) decls in
-            omega (arith, len, one, same, less, count);
+        well_formed = sound.well_formed;
+        ended = sound.ended;
+        unended = record { fit = refl; nest = refl; few = omega arith };
+        places = ap (fold (λ (places : List (List ℕ)) (i : Instruction). with_place places i.place) []) all ∙ sound.places;
+        few = let one = length-append d.ended ([] ∷ []) in omega (arith, one, same, less);
       };
     }
   where
@@ -355,13 +322,3 @@ place_told places word form refused refuses allows = by (is_place word) form (is
 pub not_refused : (fault : Option DeclFault) (n : ℕ) → Refuses {T = ℕ} fault (Ok n) → fault ≡ None
 not_refused None n h = refl
 not_refused (Some f) n h = let wrong = h f refl in absurd (cc)
-
--- what a view has of an option's value
-pub some_viewed : {X Y : Type 0} (f : X → Y) (o : Option X) (x : X) → o ≡ Some x → option_map f o ≡ Some (f x)
-some_viewed f o x is = ap (option_map f) is
-
-pub none_viewed : {X Y : Type 0} (f : X → Y) (o : Option X) → o ≡ None → option_map f o ≡ None
-none_viewed f o is = ap (option_map f) is
-
-pub pushed_viewed : {X Y : Type 0} (f : X → Y) (xs ys : List X) (x : X) → ys ≡ xs ++ x ∷ [] → map f ys ≡ map f xs ++ f x ∷ []
-pushed_viewed f xs ys x is = ap (map f) is ∙ map-append f xs (x ∷ [])

@@ -1,12 +1,12 @@
 -- How far a program is read, line by line.
-use Rattle.std.specs.Prelude.{◌≡◌, ℕ, ◌≤◌, Result, Ok, Err, Bool, true, false, List, [], ◌∷◌, ◌++◌, length, map}
+use Rattle.std.specs.Prelude.{◌≡◌, ℕ, ◌≤◌, ◌<◌, ◌||◌, if◌then◌else◌, nat_le, Result, Ok, Err, Bool, true, false, List, [], ◌∷◌, ◌++◌, length, map}
 use Rattle.std.specs.{Prelude.{reverse, Option, Some, None, IfSome}, List.list_all, Option.option_map}
 use Rattle.race_records.specs.declared.{kind.Kind.Kind, version.Version.Version}
-use Rattle.race_records.specs.Declarations.{DeclsState, IsWellFormed, count_of}
+use Rattle.race_records.specs.Declarations.{DeclsState, IsWellFormed, count_of, place_fault, place_number, with_place}
 use Rattle.race_requests.specs.declared.request.Request.{Request}
-use Rattle.race_script.specs.declared.{program.TheConstants.MAX_STEPS, form.LineKeyword.LineKeyword}
+use Rattle.race_script.specs.declared.{program.TheConstants.MAX_STEPS, form.LineKeyword.LineKeyword, reader.Unended.Unended}
 use Rattle.race_script.specs.{Bodies.{is_exit, after_ask, onces_after}, Form.line_word_in, Fault.cause}
-use Rattle.race_script.specs.{Fault.{program_causes, said_cause, may_follow}, Program.{Instruction, Draft}}
+use Rattle.race_script.specs.{Fault.{program_causes, said_cause, may_follow, follow_cause, has_no_room}, Program.{Instruction, Draft}}
 use Rattle.race_script.specs.Program.{ProgramState, asks_of, request_fits, is_body_of, spelled, bodies_of, places_of}
 use Rattle.race_script.specs.{Reading.{seen, with_said}, Text.{Said, lines}}
 use Rattle.race_text.specs.{declared.cause.TextCause.TextCause, Form.first_word, Grammar.AreThese, Lines.GoesOn}
@@ -16,6 +16,9 @@ use Rattle.race_text.specs.{Owed.owed, Reader.nothing_in, Words.{words_of, has_b
 pub record UnendedState : Type 0 where
   pub requests : List Request
   pub onces : List ℕ
+
+abbrev pub state_of : {A : Type 0} → Unended A → UnendedState
+state_of u = record { requests = u.requests.items; onces = u.onces.items }
 
 -- what was read: the header or not, the declarations with the version and the places, the bodies that have ended, and the one that has not
 pub record ReadState : Type 0 where
@@ -103,6 +106,19 @@ pub record Pushes (requests : List Request) (onces : List ℕ) (request : Reques
   pub follows : may_follow (Some (reverse onces)) request.ask ≡ true
   pub added : more ≡ requests ++ request ∷ []
   pub entered : is_exit request.ask ≡ false → after_ask (reverse onces) request.ask ≡ Some (reverse inside)
+
+-- the least cause of an instruction behind these
+abbrev pub added_cause : DeclsState → UnendedState → Instruction → Option TextCause
+added_cause decls u i =
+    if nat_le MAX_STEPS (length u.requests) || has_no_room decls.places i.place then Some TextCause.TooMany
+    else follow_cause (Some (reverse u.onces)) i.ask
+
+-- the instruction, of which there is no cause, is added to the others; its place is declared
+pub record Adds (decls : DeclsState) (old : UnendedState) (i : Instruction) (more : DeclsState) (new : UnendedState) : Type 0 where
+  pub few : length old.requests < MAX_STEPS
+  pub room : place_fault decls.places i.place ≡ None
+  pub place : more ≡ with_place decls i.place
+  pub pushes : Pushes old.requests old.onces (record { ask = i.ask; place = place_number decls.places i.place }) new.requests new.onces
 
 -- the line is taken behind the others
 pub record TakesLine (old : ReadState) (line : List ℕ) (new : ReadState) : Type 0 where

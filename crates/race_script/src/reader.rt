@@ -63,7 +63,7 @@ impl<A: Allocator> Drop for Reader<A> {
 
 impl<A: Allocator> Model for Reader<A> {
     ghost use Rattle.std.specs.{Prelude.map, Option.option_map};
-    ghost use Rattle.race_script.specs.Reader.{ReadState};
+    ghost use Rattle.race_script.specs.Reader.{ReadState, state_of};
 
     ghost Value = { ReadState };
 
@@ -71,7 +71,7 @@ impl<A: Allocator> Model for Reader<A> {
       has_header = r.has_header;
       decls = r.decls;
       ended = map (λ body. body.items) r.ended.items;
-      unended = option_map (λ u. record { requests = u.requests.items; onces = u.onces.items }) r.unended;
+      unended = option_map state_of r.unended;
     } };
 }
 
@@ -361,15 +361,8 @@ impl<A: Allocator + Copy> Reader<A> {
         let Some(mut unended) = mem::replace(&mut self.unended, None) else {
             return Err(TextCause::BadBlock);
         };
-        if unended.requests.len() >= MAX_STEPS {
-            return Err(TextCause::TooMany);
-        }
-        let number = match self.decls.add_place(as_text(place)) {
-            Ok(number) => number,
-            Err(refused) => return Err(unended.refused_cause(refused, &ask)),
-        };
         let exits = is_exit(&ask);
-        unended.push(Request { ask, place: number })?;
+        unended.add(&mut self.decls, ask, place)?;
         if !exits {
             self.unended = Some(unended);
             return Ok(());
@@ -393,6 +386,24 @@ impl<A: Allocator> Unended<A> {
         Unended {
             requests: RequestList::new(alloc),
             onces: Vec::new(alloc),
+        }
+    }
+
+    // Adds a request, whose place is declared where it wasn't, or tells the least cause of why not.
+    fn add(&mut self, decls: &mut Decls<A>, ask: Ask, place: &[u8]) -> Result<(), TextCause>
+    where
+        A: Copy,
+        requires { is_place place.now ≡ true }
+        ensures { MatchResult result
+            (λ _. spec.Adds decls.old (spec.state_of self.old) (reading.asked_at ask place.now) decls.new (spec.state_of self.new))
+            (λ told. told ≡ owed (spec.added_cause decls.old (spec.state_of self.old) (reading.asked_at ask place.now))) }
+    {
+        if self.requests.len() >= MAX_STEPS {
+            return Err(TextCause::TooMany);
+        }
+        match decls.add_place(as_text(place)) {
+            Ok(place) => self.push(Request { ask, place }),
+            Err(refused) => Err(self.refused_cause(refused, &ask)),
         }
     }
 

@@ -3,7 +3,7 @@ use Rattle.std.proofs.Common.{◌≡◌, ℕ, zero, suc, ◌+◌, ◌<◌, List,
 use Rattle.std.proofs.Common.{slice_get, refl, sym, ap, ◌∙◌, subst, arith, append_assoc, length-append}
 use Rattle.std.proofs.lemmas.{Option.slice_get_within, List.length-take-le}
 use Rattle.race_records.specs.declared.{event.Event.Event, kind.Kind.Kind}
-use Rattle.race_records.specs.{Declarations.{count_of, counts_of, capacity_of}, Events.{TraceState, IsTrace}}
+use Rattle.race_records.specs.{Declarations.{DeclsState, count_of, counts_of, capacity_of}, Events.{TraceState, IsTrace}}
 use Rattle.race_model.specs.{Legal.IsLegal, Verdict.{Race, Verdict, IsVerdict, AreReportedRaces}}
 use Rattle.race_legal.specs.{declared.legality.Illegal.Illegal, ReplayState.{ReplayState, IsInRange}}
 use Rattle.race_legal.proofs.Fronts.{take_next}
@@ -40,6 +40,23 @@ module _ (old : ReplayState) (s : ShardState) (block : List Event) where
   -- where all were, replay and shard go on
   pub judges_alone : (new : ReplayState) (t : ShardState) → Accepts old block None new → Takes s block t → Judges old (s ∷ []) block None new (t ∷ [])
   judges_alone new t accepts takes = judges_legal old new (s ∷ []) (t ∷ []) block accepts (all_push [] [] s t block (all_none block) takes)
+
+-- the list of one shard, as the code makes it
+pub items_alone : {shown pushed first : List ShardState} {t : ShardState} → shown ≡ pushed → pushed ≡ first ++ t ∷ [] → first ≡ [] → shown ≡ t ∷ []
+items_alone {shown} {pushed} {first} {t} is made none = is ∙ made ∙ ap (λ (xs : List ShardState). xs ++ t ∷ []) none
+
+-- what was made with the declarations that a trace has
+pub replayed_by : {ds es : DeclsState} {old : ReplayState} → ds ≡ es → legal.StandsFor ds.declarations old [] → legal.StandsFor es.declarations old []
+replayed_by {ds} {es} {old} is stands = subst (λ (d : DeclsState). legal.StandsFor d.declarations old []) is stands
+
+pub standing_by : {ds es : DeclsState} {s : ShardState} → ds ≡ es → ShardStandsFor ds.declarations 1 0 s [] → ShardStandsFor es.declarations 1 0 s []
+standing_by {ds} {es} {s} is stands = subst (λ (d : DeclsState). ShardStandsFor d.declarations 1 0 s []) is stands
+
+-- what is told of these events is told of those
+pub judges_these : {es fs : List Event} {o p : Option Illegal} (old : ReplayState) (shards : List ShardState) (new : ReplayState) (shards_now : List ShardState)
+    → es ≡ fs → o ≡ p → Judges old shards es o new shards_now → Judges old shards fs p new shards_now
+judges_these {es} {fs} {o} {p} old shards new shards_now these is judges =
+    subst (λ illegal. Judges old shards fs illegal new shards_now) is (subst (λ (es : List Event). Judges old shards es o new shards_now) these judges)
 
 -- before the first event of a trace
 module _ (trace : TraceState) (holds : IsTrace trace) (old : ReplayState) (s : ShardState)

@@ -33,6 +33,9 @@ seen inside = record {
   shards = inside.shards.items;
 }
 
+pub can_seen : {j k : JudgeState} (block : List Event) → j ≡ k → CanTake k block → CanTake j block
+can_seen block is can = subst (λ (j : JudgeState). CanTake j block) (sym is) can
+
 -- a list that is illegal stays so, whatever follows
 pub illegal_more : (caps : ℕ → ℕ) (past more : List Event) (i n : ℕ) → IsIllegalAt caps past i n → IsIllegalAt caps (past ++ more) i n
 illegal_more caps past more i n (e, at, is, legal) =
@@ -47,6 +50,10 @@ illegal_more caps past more i n (e, at, is, legal) =
 -- no event is accepted
 pub accepts_none : (k : ReplayState) (block : List Event) → Accepts k (take 0 block) None k
 accepts_none k block declarations past S = subst (legal.StandsFor declarations k) (sym (append-nil past)) S
+
+-- what was told of the block is this
+pub accepts_is : {o p : Option Illegal} (old new : ReplayState) (block : List Event) → o ≡ p → Accepts old block o new → Accepts old block p new
+accepts_is old new block is accepts = subst (λ illegal. Accepts old block illegal new) is accepts
 
 -- an event breaks a rule
 pub accepts_not : (old new : ReplayState) (e : Event) (illegal : Illegal) → legal.ForEachPast old (λ past. illegal.at ≡ length past)

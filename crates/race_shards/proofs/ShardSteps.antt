@@ -1,8 +1,8 @@
 -- A shard takes a block event by event.
 use Rattle.std.proofs.Common.{◌≡◌, ℕ, zero, suc, ◌+◌, ◌/◌, ◌^◌, ◌<◌, ◌≤◌, refl, List, [], ◌∷◌, ◌++◌, Some, None, All}
-use Rattle.std.proofs.Common.{take, length, slice_get, sym, ap, ◌∙◌, subst, arith, append_assoc, append-nil}
+use Rattle.std.proofs.Common.{take, length, slice_get, get_or, sym, ap, ◌∙◌, subst, arith, append_assoc, append-nil}
 use Rattle.std.proofs.{Common.length-append, Math.Seq.{take-append-add, take-append_seam}}
-use Rattle.std.proofs.lemmas.{Option.{slice_get_within, get_or_from_slice_get}, List.length-take-le}
+use Rattle.std.proofs.lemmas.{Option.{slice_get_within, slice_get_read, get_or_from_slice_get}, List.length-take-le}
 use Rattle.std.proofs.lemmas.List.Sums.{count_by-le-length}
 use Rattle.race_records.specs.declared.{event.Event.Event, kind.Kind.Kind}
 use Rattle.race_records.specs.Declarations.{count_of, counts_of, capacity_of}
@@ -14,6 +14,7 @@ use Rattle.race_clock.specs.{ClocksState.clock_of, StandsFor.{IsNext, CountsReac
 use Rattle.race_clock.proofs.{NextFrom.allowed_last, StampLaws.{Says, says}}
 use Rattle.race_access.proofs.{StampSteps.accessed, NoteSteps.no_access}
 use Rattle.race_verdict.proofs.RangeLemmas.{accessed_in_range, accessed_below}
+use Rattle.race_shards.specs.declared.shard.Shard.TheInside.{Inside}
 use Rattle.race_shards.specs.{Variables.{VariablesState, IsShapedAs, GoesOn}, Shards.{ShardState, ShardStandsFor}}
 use Rattle.race_shards.{specs.Shards.{IsNextBlock, Takes}, proofs.VariableSteps.kept_other}
 use Rattle.race_clock.specs.StandsFor as clock
@@ -25,6 +26,17 @@ all_one P e is (suc k) d less = absurd (omega (arith, less))
 
 pub all_at : (P : Event → Type 0) (block : List Event) (i : ℕ) (e : Event) → All P block → slice_get block i ≡ Some e → P e
 all_at P block i e all here = subst P (get_or_from_slice_get block i e e here) (all i e (slice_get_within block i e here))
+
+-- an item that was read stands there
+pub item_at : {X : Type 0} (xs : List X) (i : ℕ) (x : X) → i < length xs → x ≡ get_or xs i x → slice_get xs i ≡ Some x
+item_at xs i x less is = slice_get_read xs (length xs) i x refl less is
+
+-- a shard as its callers see it, from its inside
+abbrev pub seen : {A : Type 0} → Inside A → ShardState
+seen inside = record { stamper = inside.stamper; variables = inside.variables; accesses = inside.accesses }
+
+pub next_seen : {s t : ShardState} {block : List Event} → s ≡ t → IsNextBlock t block → IsNextBlock s block
+next_seen {s} {t} {block} is next = subst (λ (s : ShardState). IsNextBlock s block) (sym is) next
 
 -- a front of a block that breaks no rule breaks none
 pub legal_front : (caps : ℕ → ℕ) (past block : List Event) (i : ℕ) → IsLegal caps (past ++ block) → IsLegal caps (past ++ take i block)

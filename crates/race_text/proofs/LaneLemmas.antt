@@ -66,6 +66,11 @@ module _ {X : Type 0} (p : X → Bool) (xs : List X) (d : X) where
       by_cases : (r n : ℕ) → r ≤ n → (r ≡ n → ⊥) → r < n
       by_cases r n le ne = grind (arith, ne)
 
+  pub found_in_lanes : (at n mask : ℕ) → mask ≡ mask_l (map p (chunk at n xs)) → at + n ≤ length xs → n ≤ 64 → FailsBefore p xs d at → 0 < mask
+      → Some (at + count_trailing_zeros 64 mask) ≡ position p xs
+  found_in_lanes at n mask is room few fails some =
+      ap (λ mask. Some (at + count_trailing_zeros 64 mask)) is ∙ sym (first_in_lanes at n room few fails (omega (arith, is, some)))
+
   -- and where no bit is set, none of the lanes passes either
   pub none_in_lanes : (at n : ℕ) → at + n ≤ length xs → FailsBefore p xs d at → mask_l (map p (chunk at n xs)) ≡ 0 → FailsBefore p xs d (at + n)
   none_in_lanes at n room fails none k below =
@@ -73,6 +78,9 @@ module _ {X : Type 0} (p : X → Bool) (xs : List X) (d : X) where
         | inl early ↦ fails k early
         | inr late ↦ none_from_empty_mask p xs at n d room none k (omega arith) below
       ]
+
+  pub none_in_first : (n : ℕ) → n ≤ length xs → mask_l (map p (chunk 0 n xs)) ≡ 0 → FailsBefore p xs d n
+  none_in_first n room none k below = none_in_lanes 0 n (omega (arith, room)) (λ i early. absurd (omega (arith, early))) none k (omega (arith, below))
 
   -- the first of those from an index on, where none before it passes
   pub first_behind : (at k : ℕ) → at ≤ length xs → FailsBefore p xs d at → position p (drop at xs) ≡ Some k → position p xs ≡ Some (at + k)

@@ -34,6 +34,7 @@ pub mod ShortLemmas
 pub mod ReaderLemmas
 pub mod ParseLemmas
 pub mod FedLemmas
+pub mod LinesTaken
 pub mod LineCount
 pub mod StreamLemmas
 mod StreamKnown

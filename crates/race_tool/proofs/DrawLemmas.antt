@@ -1,6 +1,6 @@
 -- What a verdict says of the races that are asked for.
-use Rattle.std.proofs.Common.{◌≡◌, ℕ, Bool, true, false, List, [], ◌∷◌, All, Option, Some, None, slice_get, get_or}
-use Rattle.std.proofs.Common.{length, refl, arith}
+use Rattle.std.proofs.Common.{ℕ, List, [], ◌∷◌, All, Some, get_or}
+use Rattle.std.proofs.Common.{refl, arith}
 use Rattle.std.proofs.lemmas.{List.Elements.All-push, Option.slice_get-get_or}
 use Rattle.race_records.specs.Events.{TraceState}
 use Rattle.race_verdict.specs.{declared.races.Race.Race, Traces.capacities}

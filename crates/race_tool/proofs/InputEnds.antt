@@ -12,14 +12,19 @@ pub no_text : {T E : Type 0} (r : Result T E) (e : E) → IsErrAnd r (λ f. f �
 no_text (Ok t) e is P = absurd is
 no_text (Err f) e is P = tt
 
--- there may be more
-pub reads_on : (causes : Causes) (start before now : Option (List ℕ)) (Old New : List ℕ → Type 0) (turns : ℕ) → HasRead causes start before Old turns
-    → (more : Result Bool TextFault) → FeedsMore causes before now Old New more → more ≡ Ok true → HasRead causes start now New (turns + 1)
-reads_on causes start before now Old New turns fed more feeds is =
-    fed_more causes start before now Old New turns fed (subst (λ (m : Result Bool TextFault). FeedsMore causes before now Old New m) is feeds)
+-- the same of this answer
+pub feeds_as : {causes : Causes} {before now : Option (List ℕ)} {Old New : List ℕ → Type 0} {more answer : Result Bool TextFault} → more ≡ answer
+    → FeedsMore causes before now Old New more → FeedsMore causes before now Old New answer
+feeds_as {causes} {before} {now} {Old} {New} is feeds = subst (λ (m : Result Bool TextFault). FeedsMore causes before now Old New m) is feeds
 
-module _ {R V : Type 0} (IsText : V → List ℕ → Type 0) (causes : Causes) (remaining : R → Option (List ℕ)) (source before now : Source R)
-    (Old New : List ℕ → Type 0) (turns : ℕ) (fed : HasRead causes (unread remaining source) (unread remaining before) Old turns)
+-- there may be more
+pub reads_on : {causes : Causes} {start before now : Option (List ℕ)} {Old New : List ℕ → Type 0} {turns : ℕ} {more : Result Bool TextFault}
+    → HasRead causes start before Old turns → FeedsMore causes before now Old New more → more ≡ Ok true → HasRead causes start now New (turns + 1)
+reads_on {causes} {start} {before} {now} {Old} {New} {turns} fed feeds is =
+    fed_more causes start before now Old New turns fed (feeds_as is feeds)
+
+module _ {R V : Type 0} {IsText : V → List ℕ → Type 0} {causes : Causes} {remaining : R → Option (List ℕ)} {source now : Source R} (before : Source R)
+    {Old : List ℕ → Type 0} {turns : ℕ} (fed : HasRead causes (unread remaining source) (unread remaining before) Old turns)
     (calm : source_failures before ≡ source_failures source) where
   -- a read failed
   pub reads_failed : (e : ReadFault) (result : Result (Result V TextFault) ReadFault) → IsErrAnd result (λ f. f ≡ e)
@@ -33,16 +38,13 @@ module _ {R V : Type 0} (IsText : V → List ℕ → Type 0) (causes : Causes) (
     calm = λ other. calm_now (err_other result e ReadFault.Failed is other) ∙ calm;
     failed = λ f. failed (err_same result e ReadFault.Failed is f) ∙ ap one_more calm;
     fine = λ f.
-        fine_before causes (unread remaining source) (unread remaining before) (unread remaining now) Old New turns fed
+        fine_before causes (unread remaining source) (unread remaining before) (unread remaining now) Old Old turns fed
         (kept (err_same result e ReadFault.Failed is f));
     endless = λ f. absurd (ends (err_same result e ReadFault.Endless is f));
   }
 
-  module _ (more : Result Bool TextFault) (feeds : FeedsMore causes (unread remaining before) (unread remaining now) Old New more)
+  module _ {New : List ℕ → Type 0} {more : Result Bool TextFault} (feeds : FeedsMore causes (unread remaining before) (unread remaining now) Old New more)
       (calm_now : source_failures now ≡ source_failures before) where
-    feeds_as : (a : Result Bool TextFault) → more ≡ a → FeedsMore causes (unread remaining before) (unread remaining now) Old New a
-    feeds_as a is = subst (λ (b : Result Bool TextFault). FeedsMore causes (unread remaining before) (unread remaining now) Old New b) is feeds
-
     -- all was read, and this is what is told of it, but for want of memory
     pub reads_ended : more ≡ Ok false → (told : Result V TextFault) (result : Result (Result V TextFault) ReadFault)
         → IfOk told (λ value. (bytes : List ℕ) → New bytes → IsText value bytes)
@@ -52,7 +54,7 @@ module _ {R V : Type 0} (IsText : V → List ℕ → Type 0) (causes : Causes) (
         → ReadsInput IsText causes remaining source now result
     reads_ended is told result text fault same others memory = record {
       ok = end_answered causes (unread remaining source) (unread remaining before) (unread remaining now) Old New turns fed IsText told result
-          (feeds_as (Ok false) is) text fault same others;
+          (feeds_as is feeds) text fault same others;
       calm = λ _. calm_now ∙ calm;
       failed = λ f. absurd (out_of_memory_alone result memory ReadFault.Failed (λ e. cc) f);
       fine = λ f. absurd (out_of_memory_alone result memory ReadFault.Failed (λ e. cc) f);
@@ -62,7 +64,7 @@ module _ {R V : Type 0} (IsText : V → List ℕ → Type 0) (causes : Causes) (
     -- a line was at fault
     pub reads_faulty : (fault : TextFault) → more ≡ Err fault → ReadsInput IsText causes remaining source now (Ok (Err fault))
     reads_faulty fault is = record {
-      ok = fault_read causes (unread remaining source) (unread remaining before) (unread remaining now) Old New turns fed IsText fault (feeds_as (Err fault) is);
+      ok = fault_read causes (unread remaining source) (unread remaining before) (unread remaining now) Old New turns fed IsText fault (feeds_as is feeds);
       calm = λ _. calm_now ∙ calm;
       failed = λ f. absurd cc;
       fine = λ f. absurd cc;

@@ -9,7 +9,11 @@ use Rattle.race_tool.specs.declared.input.{ReadFault.ReadFault, TheConstants.{BL
 use Rattle.race_tool.specs.declared.intake.{Intake.Intake, JudgedStream.JudgedStream}
 use Rattle.race_tool.specs.Input.{HasReadAll, FeedsMore, IsBetweenFine, ReadsBy}
 use Rattle.race_tool.specs.{Intake.{HasTaken, GoesOnTo, IsReadable, IsReadOn, ReadsOn, ReadsOnAll}, Streams.IsReadText}
-use Rattle.race_tool.proofs.InputLemmas.{err, fed_none, fed_more, fed_all, fault_read, fine_before, read_more}
+use Rattle.race_tool.proofs.{InputEnds.feeds_as, InputLemmas.{err, fed_none, fed_more, fed_all, fault_read, fine_before, read_more}}
+
+-- what was told is this
+pub as_told : {answer : Result Bool TextFault} {more is : Bool} → answer ≡ Ok more → more ≡ is → answer ≡ Ok is
+as_told told is = told ∙ ap (λ (b : Bool). Ok b) is
 
 module _ {R A : Type 0} (remaining : R → Option (List ℕ)) (Stands : EventStream A → List (List ℕ) → Type 0) where
   -- before the first read
@@ -51,51 +55,56 @@ module _ {R A : Type 0} (remaining : R → Option (List ℕ)) (Stands : EventStr
           fault_read trace_causes (unread remaining start) (unread remaining before) (unread remaining after)
           (IsFed trace_causes Stands old) (IsFed trace_causes Stands new) turns held.read (λ (text : JudgedStream A) bytes. IsReadText text bytes) fault told
 
-module _ {R A : Type 0} (remaining : R → Option (List ℕ)) (Stands : EventStream A → List (List ℕ) → Type 0) (initial before : Source R) (first old : Intake A)
-    (goes : (start : Source R) → HasTaken remaining Stands start initial first.reader first.turns → HasTaken remaining Stands start before old.reader old.turns)
-    (calm : source_failures before ≡ source_failures initial) where
-  module _ (after : Source R) (new : Intake A) where
-    -- it went on
-    pub goes_on : (answer : Result Bool TextFault)
-        → ((start : Source R) → HasTaken remaining Stands start before old.reader old.turns → GoesOnTo remaining Stands start after new.reader new.turns answer)
-        → IfOk answer (λ more. IsReadOn Stands first.turns new more) → source_failures after ≡ source_failures before
-        → ReadsOn remaining Stands initial after first new (Ok answer)
-    goes_on answer to on same = record {
-      ok = λ start held. to start (goes start held);
-      on = on;
-      calm = λ _. same ∙ calm;
-      failed = λ is. absurd cc;
-      fine = λ is. absurd cc;
-      endless = λ is. absurd cc;
-    }
+-- reading on, between two blocks: what was taken since any time before is taken still, and no read failed
+pub record IsOn {R A : Type 0} (remaining : R → Option (List ℕ)) (Stands : EventStream A → List (List ℕ) → Type 0)
+    (initial before : Source R) (first old : Intake A) : Type 0 where
+  pub goes : (start : Source R) → HasTaken remaining Stands start initial first.reader first.turns
+      → HasTaken remaining Stands start before old.reader old.turns
+  pub calm : source_failures before ≡ source_failures initial
 
-    -- a read failed
-    pub at_failure : (fault : ReadFault)
-        → (err {X = Result Bool TextFault} fault ≢ Err ReadFault.Failed → source_failures after ≡ source_failures before)
-        → (err {X = Result Bool TextFault} fault ≡ Err ReadFault.Failed → source_failures after ≡ one_more (source_failures before))
-        → (err {X = Result Bool TextFault} fault ≡ Err ReadFault.Failed → Keeps (unread remaining before) (unread remaining after))
-        → err {X = Result Bool TextFault} fault ≢ Err ReadFault.Endless → ReadsOn remaining Stands initial after first new (Err fault)
-    at_failure fault calm_now failed kept ends = record {
-      ok = tt;
-      on = tt;
-      calm = λ other. calm_now other ∙ calm;
-      failed = λ is. failed is ∙ ap one_more calm;
-      fine = λ is start held.
-          fine_before trace_causes (unread remaining start) (unread remaining before) (unread remaining after)
-          (IsFed trace_causes Stands old.reader) (IsFed trace_causes Stands old.reader) old.turns (goes start held).read (kept is);
-      endless = λ is. absurd (ends is);
-    }
+module _ {R A : Type 0} {remaining : R → Option (List ℕ)} {Stands : EventStream A → List (List ℕ) → Type 0} {initial before : Source R} {first old : Intake A}
+    (is_on : IsOn remaining Stands initial before first old) where
+  -- it went on
+  goes_on : (after : Source R) (new : Intake A) (answer : Result Bool TextFault)
+      → ((start : Source R) → HasTaken remaining Stands start before old.reader old.turns → GoesOnTo remaining Stands start after new.reader new.turns answer)
+      → IfOk answer (λ more. IsReadOn Stands first.turns new more) → source_failures after ≡ source_failures before
+      → ReadsOn remaining Stands initial after first new (Ok answer)
+  goes_on after new answer to on same = record {
+    ok = λ start held. to start (is_on.goes start held);
+    on = on;
+    calm = λ _. same ∙ is_on.calm;
+    failed = λ is. absurd cc;
+    fine = λ is. absurd cc;
+    endless = λ is. absurd cc;
+  }
+
+  -- a read failed
+  pub at_failure : {after : Source R} {new : Intake A} {fault : ReadFault}
+      → (err {X = Result Bool TextFault} fault ≢ Err ReadFault.Failed → source_failures after ≡ source_failures before)
+      → (err {X = Result Bool TextFault} fault ≡ Err ReadFault.Failed → source_failures after ≡ one_more (source_failures before))
+      → (err {X = Result Bool TextFault} fault ≡ Err ReadFault.Failed → Keeps (unread remaining before) (unread remaining after))
+      → err {X = Result Bool TextFault} fault ≢ Err ReadFault.Endless → ReadsOn remaining Stands initial after first new (Err fault)
+  at_failure {after} {new} {fault} calm_now failed kept ends = record {
+    ok = tt;
+    on = tt;
+    calm = λ other. calm_now other ∙ is_on.calm;
+    failed = λ is. failed is ∙ ap one_more is_on.calm;
+    fine = λ is start held.
+        fine_before trace_causes (unread remaining start) (unread remaining before) (unread remaining after)
+        (IsFed trace_causes Stands old.reader) (IsFed trace_causes Stands old.reader) old.turns (is_on.goes start held).read (kept is);
+    endless = λ is. absurd (ends is);
+  }
 
   -- there were as many reads as there may be
   pub at_limit : old.turns ≡ MAX_TURNS → ReadsOn remaining Stands initial before first old (Err ReadFault.Endless)
   at_limit all = record {
     ok = tt;
     on = tt;
-    calm = λ _. calm;
+    calm = λ _. is_on.calm;
     failed = λ is. absurd cc;
     fine = λ is. absurd cc;
     endless = λ is start held.
-        let taken = goes start held in
+        let taken = is_on.goes start held in
         record {
           reads = subst (λ n. source_reads before ≡ more_by n (source_reads start)) all (taken.reads (omega (arith, all)));
           bytes = taken.read.bytes;
@@ -105,45 +114,40 @@ module _ {R A : Type 0} (remaining : R → Option (List ℕ)) (Stands : EventStr
         };
   }
 
--- a block is read and fed
-module _ {R A : Type 0} (remaining : R → Option (List ℕ)) (Stands : EventStream A → List (List ℕ) → Type 0) (initial before after : Source R) (first old new : Intake A)
-    (goes : (start : Source R) → HasTaken remaining Stands start initial first.reader first.turns → HasTaken remaining Stands start before old.reader old.turns)
-    (calm : source_failures before ≡ source_failures initial) (answer : Result Bool TextFault)
-    (feeds : FeedsMore trace_causes (unread remaining before) (unread remaining after) (IsFed trace_causes Stands old.reader)
-    (IsFed trace_causes Stands new.reader) answer)
-    (calm_now : source_failures after ≡ source_failures before) where
-  abbrev Answers : Result Bool TextFault → Type 0
-  Answers a = ReadsOn remaining Stands initial after first new (Ok a)
+  -- a block is read and fed
+  module _ {after : Source R} {new : Intake A} {answer : Result Bool TextFault}
+      (feeds : FeedsMore trace_causes (unread remaining before) (unread remaining after) (IsFed trace_causes Stands old.reader)
+      (IsFed trace_causes Stands new.reader) answer)
+      (calm_now : source_failures after ≡ source_failures before) where
+    pub at_fault : (fault : TextFault) → answer ≡ Err fault → ReadsOn remaining Stands initial after first new (Ok (Err fault))
+    at_fault fault is =
+        goes_on after new (Err fault)
+        (λ start held. faulty remaining Stands start before old.reader old.turns held after new.reader fault (feeds_as is feeds)) tt calm_now
 
-  fed_so : (a : Result Bool TextFault) → answer ≡ a
-      → FeedsMore trace_causes (unread remaining before) (unread remaining after) (IsFed trace_causes Stands old.reader) (IsFed trace_causes Stands new.reader) a
-  fed_so a is =
-      subst (λ (b : Result Bool TextFault). FeedsMore trace_causes (unread remaining before) (unread remaining after)
-      (IsFed trace_causes Stands old.reader) (IsFed trace_causes Stands new.reader) b) is feeds
-
-  pub at_fault : (fault : TextFault) → answer ≡ Err fault → Answers (Err fault)
-  at_fault fault is =
-      goes_on remaining Stands initial before first old goes calm after new (Err fault)
-      (λ start held. faulty remaining Stands start before old.reader old.turns held after new.reader fault (fed_so (Err fault) is)) tt calm_now
-
-  module _ (readable : IsReadable Stands new) where
-    pub at_end : answer ≡ Ok false → Answers (Ok false)
-    at_end is =
-        goes_on remaining Stands initial before first old goes calm after new (Ok false)
-        (λ start held. taken_all remaining Stands start before old.reader old.turns held after new.reader (fed_so (Ok false) is))
-        (record { readable = readable; later = λ no. cc; begun = λ no. cc }) calm_now
-
-    -- one more
-    module _ (is : answer ≡ Ok true) (turns : new.turns ≡ old.turns + 1) (reads : source_reads after ≡ one_more (source_reads before)) where
-      taken_now : (start : Source R) → HasTaken remaining Stands start before old.reader old.turns
-          → HasTaken remaining Stands start after new.reader new.turns
-      taken_now start held =
+    -- there may be more
+    pub on_next : answer ≡ Ok true → new.turns ≡ old.turns + 1 → source_reads after ≡ one_more (source_reads before)
+        → IsOn remaining Stands initial after first new
+    on_next is turns reads = record {
+      goes = λ start taken.
           subst (λ n. HasTaken remaining Stands start after new.reader n) (sym turns)
-          (taken_next remaining Stands start before old.reader old.turns held after new.reader answer is feeds reads)
+          (taken_next remaining Stands start before old.reader old.turns (is_on.goes start taken) after new.reader answer is feeds reads);
+      calm = calm_now ∙ is_on.calm;
+    }
 
-      pub at_enough : first.turns ≤ old.turns → IsTrue (has_events new.reader.lines.reader) → Answers (Ok true)
-      at_enough later begun =
-          goes_on remaining Stands initial before first old goes calm after new (Ok true) taken_now
+    module _ (readable : IsReadable Stands new) where
+      pub at_end : answer ≡ Ok false → ReadsOn remaining Stands initial after first new (Ok (Ok false))
+      at_end is =
+          goes_on after new (Ok false)
+          (λ start held. taken_all remaining Stands start before old.reader old.turns held after new.reader (feeds_as is feeds))
+          (record { readable = readable; later = λ no. cc; begun = λ no. cc }) calm_now
+
+      -- one more
+      pub at_enough : answer ≡ Ok true → new.turns ≡ old.turns + 1 → source_reads after ≡ one_more (source_reads before)
+          → first.turns ≤ old.turns → IsTrue (has_events new.reader.lines.reader) → ReadsOn remaining Stands initial after first new (Ok (Ok true))
+      at_enough is turns reads later begun =
+          goes_on after new (Ok true)
+          (λ start held. subst (λ n. HasTaken remaining Stands start after new.reader n) (sym turns)
+          (taken_next remaining Stands start before old.reader old.turns held after new.reader answer is feeds reads))
           (record { readable = readable; later = λ yes. omega (arith, turns, later); begun = λ yes. begun }) calm_now
 
 -- what holds is told whatever was read
@@ -160,10 +164,10 @@ fine_now Stands old new answer more is fine on was =
     record { fine = none; between = on (λ _. was.between) none }
 
 -- so the next block can be read
-pub readable_now : {A : Type 0} (Stands : EventStream A → List (List ℕ) → Type 0) (old new : Intake A) (answer : Result Bool TextFault) (more : Bool) → answer ≡ Ok more
-    → OnOk answer (new.reader.fault ≡ None) → (IsReady Stands old.reader → IsReady Stands new.reader) → IsReadable Stands old
+pub readable_now : {A : Type 0} {Stands : EventStream A → List (List ℕ) → Type 0} {old new : Intake A} {answer : Result Bool TextFault} {more : Bool}
+    → answer ≡ Ok more → OnOk answer (new.reader.fault ≡ None) → (IsReady Stands old.reader → IsReady Stands new.reader) → IsReadable Stands old
     → vec_len new.block ≡ BLOCK → new.wanted ≡ old.wanted → new.turns ≤ MAX_TURNS → IsReadable Stands new
-readable_now Stands old new answer more is fine on was room wanted limit = record {
+readable_now {A} {Stands} {old} {new} {answer} {more} is fine on was room wanted limit = record {
   room = room;
   some = subst (λ n. 0 < n) (sym wanted) was.some;
   ready = fine_now Stands old.reader new.reader answer more is fine on was.ready;

@@ -1,16 +1,16 @@
 -- The turns of a trace that is judged while it is read: the first one, the next, and the end.
 use Rattle.std.proofs.Common.{◌≡◌, ℕ, ◌<◌, Bool, true, false, List, [], ◌++◌, Option, Some, None, Result, Ok, Err, IfOk, IfErr}
-use Rattle.std.proofs.{Common.{IsErrAnd, IsTrue, OnOk, refl, sym, ap, ◌∙◌, subst, arith}, lemmas.Bool.Decides.nat_tests}
+use Rattle.std.proofs.{Common.{IsErrAnd, OnOk, refl, sym, ap, ◌∙◌, subst, arith}, lemmas.Bool.Decides.nat_tests}
 use Rattle.race_records.specs.{declared.source.Source.Source, Devices.{unread, source_failures, one_more}}
 use Rattle.race_shards.specs.{Judging.JudgeState, Limits.is_block}
 use Rattle.race_text.specs.declared.{cause.TextFault.TextFault, fed.Fed.Fed, stream.EventStream.EventStream}
 use Rattle.race_text.specs.{Fault.trace_causes, Fed.{ForEachFedTo, IsFed}, Grammar.ForEachLines, Lines.first_fault}
-use Rattle.race_text.specs.Stream.{Known, StandsFor, IsTextOfStream, decls_of, events_of, has_events}
+use Rattle.race_text.specs.Stream.{Known, StandsFor, IsTextOfStream, decls_of, events_of}
 use Rattle.race_tool.specs.declared.{handed.{Handed.Handed, Judging.Judging}, input.ReadFault.ReadFault}
 use Rattle.race_tool.specs.declared.intake.{Intake.Intake, JudgedStream.JudgedStream}
-use Rattle.race_tool.specs.Input.{HasReadAll, IsBetweenFine, ReadsBy, ReadsInput}
+use Rattle.race_tool.specs.Input.{IsBetweenFine, ReadsBy, ReadsInput}
 use Rattle.race_tool.specs.Intake.{HasTaken, GoesOnTo, IsReadable, IsReadOn, ReadsOnAll, CanFinish}
-use Rattle.race_tool.specs.Streams.{CanJudgeAll, CanTakeNext, IsHanded, IsReadText, JudgesAll, StandsBehind, known_behind}
+use Rattle.race_tool.specs.Streams.{CanHandOn, CanJudgeAll, CanTakeNext, IsHanded, IsReadText, JudgesAll, StandsBehind, known_behind}
 use Rattle.race_tool.proofs.{InputEnds.no_text, IntakeLemmas.taken_none}
 use Rattle.race_tool.proofs.InputLemmas.{end_read, err_other, err_same, out_of_memory_alone, read_as}
 use Rattle.race_shards.specs.Judging as judging
@@ -70,11 +70,10 @@ module _ {A : Type 0} (Old New : EventStream A → List (List ℕ) → Type 0) (
       }
 
 -- reading on failed
-pub failed_turn : {R A : Type 0} (remaining : R → Option (List ℕ)) (start source now : Source R) (i next : Intake A) (old : Handed A) (at : IsAt remaining start source i old)
-    (e : ReadFault) (result : Result (Result (JudgedStream A) TextFault) ReadFault) → IsErrAnd result (λ f. f ≡ e)
-    → ReadsOnAll remaining source now i next (Err e)
-    → ReadsInput IsReadText trace_causes remaining start now result
-failed_turn remaining start source now i next old at e result gives reads =
+pub failed_turn : {R A : Type 0} {remaining : R → Option (List ℕ)} {start source now : Source R} {i next : Intake A} {old : Handed A} {e : ReadFault}
+    {result : Result (Result (JudgedStream A) TextFault) ReadFault} → IsAt remaining start source i old → IsErrAnd result (λ f. f ≡ e)
+    → ReadsOnAll remaining source now i next (Err e) → ReadsInput IsReadText trace_causes remaining start now result
+failed_turn {R} {A} {remaining} {start} {source} {now} {i} {next} {old} {e} {result} at gives reads =
     let read = reads.each at.known at.readable in
     record {
       ok = no_text result e gives _;
@@ -85,8 +84,8 @@ failed_turn remaining start source now i next old at e result gives reads =
     }
 
 -- a turn, in which the judge took what was handed on
-module _ {R A : Type 0} (remaining : R → Option (List ℕ)) (start source now : Source R) (i next : Intake A) (old h : Handed A) (at : IsAt remaining start source i old)
-    (answer : Result Bool TextFault) (reads : ReadsOnAll remaining source now i next (Ok answer))
+module _ {R A : Type 0} {remaining : R → Option (List ℕ)} {start source now : Source R} {i next : Intake A} {old : Handed A} {answer : Result Bool TextFault}
+    (h : Handed A) (at : IsAt remaining start source i old) (reads : ReadsOnAll remaining source now i next (Ok answer))
     (judges : OnOk answer (JudgesAll old h)) where
   went_to : (a : Result Bool TextFault) → answer ≡ a → GoesOnTo remaining (StandsFor at.known) start now next.reader next.turns a
   went_to a is =
@@ -113,7 +112,7 @@ module _ {R A : Type 0} (remaining : R → Option (List ℕ)) (start source now 
     judged_all : JudgesAll old h
     judged_all = subst (λ (a : Result Bool TextFault). OnOk a (JudgesAll old h)) is judges
 
-    pub none_is_left : h.events.items ≡ []
+    none_is_left : h.events.items ≡ []
     none_is_left = judged_all.none
 
     pub block_still : is_block h.judging.block ≡ true
@@ -175,11 +174,8 @@ module _ {R A : Type 0} (remaining : R → Option (List ℕ)) (start source now 
     some_behind : grammar.StandsForSome (StandsBehind h at.known stream)
     some_behind = let some = (went_on true is).readable.ready.between.some in record { lines = some.lines; stands = behind some.lines some.stands }
 
-    pub can_hand_over : (k : Known) × grammar.StandsForSome (StandsBehind h k stream)
-    can_hand_over = (at.known, some_behind)
-
-    pub has_begun : IsTrue (has_events stream)
-    has_begun = (went_on true is).begun refl
+    pub can_hand_on : CanHandOn h stream
+    can_hand_on = record { some = (at.known, some_behind); none = none_is_left true is; begun = (went_on true is).begun refl; block = block_still true is }
 
     module _ (after : Handed A) (s : EventStream A) (stands : (k : Known) → ForEachLines (StandsBehind h k stream) (StandsBehind after (known_behind k stream) s)) where
       abbrev known_next : Known

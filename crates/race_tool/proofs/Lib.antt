@@ -14,3 +14,4 @@ pub mod StreamedLemmas
 pub mod StreamedAnswers
 pub mod IntakeLemmas
 pub mod IntakeTurns
+pub mod PredictLemmas

@@ -8,7 +8,7 @@ use Rattle.race_report.proofs.PrintableLemmas.{notes_are_named}
 use Rattle.race_text.specs.{Fault.{trace_causes, text_fault}, Lines.first_fault, Stream.decls_of}
 use Rattle.race_text.proofs.{FedLemmas.ended_fault_stays, TextFine.text_has_no_fault}
 use Rattle.race_tool.specs.declared.{check.{Judged.{Judged as Plain}}, reply.Reply.Reply, stream_found.Noted.Noted}
-use Rattle.race_tool.specs.Finding.{Finding, Faulty, TooLong, Judged, IsFinding, report_of, status_of}
+use Rattle.race_tool.specs.Finding.{Faulty, TooLong, Judged, IsFinding, report_of, status_of}
 use Rattle.race_tool.specs.{Findings.{IsJudged, judged_text, judged_status}, Input.Reads, Outcome.IsRightFor}
 use Rattle.race_tool.specs.{Reply.{reply_text, reply_status}, Streams.{IsJudgedText, IsFoundOf, found_text, found_status, status_noted}}
 use Rattle.race_tool.proofs.{EngineLemmas.StandsBehind, InputLemmas.itself}

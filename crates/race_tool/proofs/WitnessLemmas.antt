@@ -1,6 +1,6 @@
 -- What a verdict says of the variable of a name.
 use Rattle.std.proofs.Common.{◌≡◌, ℕ, ◌<◌, List, All, length, Option, Some, None, map, slice_get, get_or, refl, sym, ap}
-use Rattle.std.proofs.Common.{◌∙◌, subst, arith}
+use Rattle.std.proofs.Common.{◌∙◌, subst}
 use Rattle.std.{proofs.lemmas.Option.{slice_get_within, slice_get-map, slice_get-get_or}, specs.Option.option_map}
 use Rattle.race_records.specs.Events.{TraceState}
 use Rattle.race_model.{specs.{Race.{IsRace, IsReportedRace}, Events.is_access}, proofs.ReorderLemmas.passes_at}

@@ -1,14 +1,10 @@
 -- Which reply is right where drawings of a trace are asked for.
-use Rattle.std.specs.{Prelude.{ℕ, ◌≡◌, ◌⊎◌, ◌&&◌, nat_lt, nat_le, Bool, true, false, IsTrue, List, [], ◌∷◌, map}, Borrow.Bor}
-use Rattle.std.specs.Prelude.{length, Option, Some, None}
+use Rattle.std.specs.{Prelude.{ℕ, ◌≡◌, ◌⊎◌, Bool, List, [], ◌∷◌, map, Option, Some, None}, Borrow.Bor}
 use Rattle.race_records.specs.{declared.{source.Source.Source, sink.Sink.Sink}, Events.TraceState}
 use Rattle.race_model.specs.{Legal.IsLegal, Race.IsReportedRace}
-use Rattle.race_text.specs.{Fault.{text_fault, trace_causes}, Text.IsTextOf}
+use Rattle.race_text.specs.{Fault.{text_fault, trace_causes}}
 use Rattle.race_verdict.specs.{declared.races.Race.Race, Races.race_of, Traces.{capacities, HasVerdict}}
-use Rattle.race_report.specs.Report.{report}
-use Rattle.race_draw.specs.{Layout.{LayoutState, AreLayoutsOf}, Text.drawings_text}
-use Rattle.race_draw.specs.{declared.clean.TheConstants.MAX_CLEAN_EVENTS, Clean.{CleanState, IsCleanLayoutOf}}
-use Rattle.race_draw.specs.{Chart.chart_text, Svg.svg_text}
+use Rattle.race_draw.specs.Text.{AreDrawn, IsDrawnClean}
 use Rattle.race_tool.specs.{declared.{draw.Drawn.Drawn, reply.Reply.Reply}, Finding.IsTextWhere, Outcome.{Answers, Never}}
 use Rattle.race_tool.specs.{Reply.{IsBrokenBy, reply_text, reply_status}, Witness.{IsVar, HasNoRace}}
 use Rattle.race_model.specs.Verdict as model
@@ -30,18 +26,12 @@ AreAsked trace (Some name) races =
     (race : Race) × (races ≡ race ∷ []) × IsVar trace name race.var
     × IsReportedRace (capacities trace) trace.events race.var race.first race.second
 
--- the text is that of the drawings of these races
-pub record IsTextOfDrawings (trace : TraceState) (races : List Race) (text : List ℕ) : Type 0 where
-  pub layouts : List LayoutState
-  pub laid_out : AreLayoutsOf trace races layouts
-  pub drawn : text ≡ drawings_text trace layouts
-
--- the text is that of the drawings of the races that are asked for
-pub record IsTextOfRaces (trace : TraceState) (name : Option (List ℕ)) (text : List ℕ) : Type 0 where
+-- the text is that of the drawings of the races that are asked for, as an SVG document or not
+pub record IsTextOfRaces (trace : TraceState) (name : Option (List ℕ)) (svg : Bool) (text : List ℕ) : Type 0 where
   pub legal : IsLegal (capacities trace) trace.events
   pub races : List Race
   pub asked : AreAsked trace name races
-  pub drawings : IsTextOfDrawings trace races text
+  pub drawings : AreDrawn trace svg races text
 
 -- there is a name, which is that of no variable with a race
 abbrev pub HasNoRaceOn : Option (List ℕ) → TraceState → Type 0
@@ -53,27 +43,13 @@ abbrev pub IsCleanWithout : Option (List ℕ) → TraceState → Type 0
 IsCleanWithout None trace = HasVerdict trace model.Clean
 IsCleanWithout (Some name) trace = ⊥
 
--- a clean trace of so many events has a chart
-abbrev pub has_chart : ℕ → Bool
-has_chart events = nat_lt 0 events && nat_le events MAX_CLEAN_EVENTS
+-- the text is that of a clean trace, and there is no name
+abbrev pub IsTextOfClean : TraceState → Option (List ℕ) → Bool → List ℕ → Type 0
+IsTextOfClean trace name svg text = IsCleanWithout name trace × IsDrawnClean trace svg text
 
--- the text is the trace's chart
-abbrev pub IsChartOf : TraceState → List ℕ → Type 0
-IsChartOf trace text = (layout : CleanState) × IsCleanLayoutOf trace layout × (text ≡ chart_text trace layout)
-
--- the text is the chart of a clean trace that has one, and there is no name
-abbrev pub IsTextOfClean : TraceState → Option (List ℕ) → List ℕ → Type 0
-IsTextOfClean trace name text = IsCleanWithout name trace × IsTrue (has_chart (length trace.events)) × IsChartOf trace text
-
--- it is one of the two
-abbrev pub IsDrawnText : TraceState → Option (List ℕ) → List ℕ → Type 0
-IsDrawnText trace name text = IsTextOfRaces trace name text ⊎ IsTextOfClean trace name text
-
--- this is drawn of the trace, as an SVG document or not: a clean trace that has no chart as the line of its report, where there is no name
+-- this is drawn of the trace, as an SVG document or not
 abbrev pub IsDrawnOf : {A : Type 0} → Option (List ℕ) → Bool → TraceState → Drawn A → Type 0
-IsDrawnOf name svg trace (Drawn.Clean shown) = (shown ≡ trace) × IsCleanWithout name trace × (has_chart (length trace.events) ≡ false)
-IsDrawnOf name svg trace (Drawn.Text text) = (svg ≡ false) × IsDrawnText trace name text.items
-IsDrawnOf name svg trace (Drawn.Svg text) = (svg ≡ true) × IsDrawnText trace name text.items
+IsDrawnOf name svg trace drawn = IsTextOfRaces trace name svg drawn.text.items ⊎ IsTextOfClean trace name svg drawn.text.items
 
 -- the reply is right for the name and the bytes
 abbrev pub IsDrawing : {A : Type 0} → Option (List ℕ) → Bool → List ℕ → Reply (Drawn A) → Type 0
@@ -85,9 +61,7 @@ IsDrawing name svg bytes (Reply.TooLong events) = ⊥
 
 -- what is printed of what was drawn
 abbrev pub drawing_text : {A : Type 0} → Drawn A → List ℕ
-drawing_text (Drawn.Clean trace) = report trace model.Clean
-drawing_text (Drawn.Text text) = text.items
-drawing_text (Drawn.Svg text) = svg_text text.items
+drawing_text drawn = drawn.text.items
 
 -- and with which status
 abbrev pub drawing_status : {A : Type 0} → Drawn A → ℕ

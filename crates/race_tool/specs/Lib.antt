@@ -13,3 +13,4 @@ pub mod Laws
 pub mod Witness
 pub mod Intake
 pub mod Draw
+pub mod Predict

@@ -1,12 +1,12 @@
 -- How an engine ends: what was read, what was written, and which device failed.
-use Rattle.std.specs.Prelude.{ℕ, ◌≡◌, ◌≢◌, ◌⊎◌, ◌&&◌, nat_le, Bool, List, Option, Result, Ok, Err, IfOk, MatchResult, ⊤}
+use Rattle.std.specs.Prelude.{ℕ, ◌≡◌, ◌≢◌, ◌⊎◌, ◌&&◌, nat_le, Bool, List, Option, Result, Err, IfOk, MatchResult, ⊤}
 use Rattle.std.specs.Io.KnownBytes.{Appends}
 use Rattle.race_records.specs.{declared.{source.Source.Source, sink.{Sink.Sink, WriteFault.WriteFault}}, Devices.{unread, written}}
 use Rattle.race_records.specs.{Devices.{source_failures, sink_failures, one_more}, Page.IsCutOff}
 use Rattle.race_tool.specs.declared.{check.CheckOptions.CheckOptions, engine.Unanswered.Unanswered}
 use Rattle.race_tool.specs.{declared.input.ReadFault.ReadFault, Input.{Reads, ReadsAll, ReadsFine, ReadsMany, IsInput}}
 use Rattle.race_shards.specs.declared.fault.TheConstants.{MAX_SHARDS, MAX_BLOCK}
-use Rattle.race_text.specs.{declared.cause.TextFault.TextFault, Lines.Causes, Output.Writes}
+use Rattle.race_text.specs.{Lines.Causes, Output.Writes}
 use Rattle.race_tool.specs.declared.status.TheConstants as status
 
 -- each option is in its limits

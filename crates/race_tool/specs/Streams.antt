@@ -1,15 +1,16 @@
 -- A trace that is judged while it is read: its events are handed on to a judge, and forgotten.
-use Rattle.std.specs.Prelude.{◌≡◌, ℕ, true, List, [], ◌++◌, Option, Some, None, IsSomeAnd}
+use Rattle.std.specs.Prelude.{◌≡◌, ℕ, IsTrue, true, List, [], ◌++◌, Option, Some, None, IsSomeAnd}
 use Rattle.race_records.specs.{declared.event.Event.Event, Declarations.Declaration, Events.TraceState}
 use Rattle.race_verdict.specs.{declared.report.Report.Report, Notes.{verdict_noted, IsNotedOf}}
 use Rattle.race_verdict.specs.Traces.{HasVerdict}
 use Rattle.race_shards.specs.{Judging.JudgeState, Limits.is_block}
 use Rattle.race_text.specs.{declared.stream.EventStream.EventStream, Fault.text_fault, Text.IsTextOf}
-use Rattle.race_text.specs.Stream.{Known, StandsFor, StandsWith, decls_of, events_of, trace_with}
+use Rattle.race_text.specs.Stream.{Known, StandsFor, StandsWith, decls_of, events_of, has_events, trace_with}
 use Rattle.race_report.specs.Noted.{report_noted}
 use Rattle.race_tool.specs.declared.{handed.Handed.Handed, intake.JudgedStream.JudgedStream}
 use Rattle.race_tool.specs.declared.{reply.Reply.Reply, stream_found.Noted.Noted}
 use Rattle.race_shards.specs.Judging as judging
+use Rattle.race_text.specs.Grammar as grammar
 use Rattle.race_tool.specs.declared.status.TheConstants as status
 
 -- the judge stands for these events, by what was declared; before the first one there is no judge
@@ -43,6 +44,13 @@ pub record JudgesAll {A : Type 0} (old new : Handed A) : Type 0 where
 pub record StandsBehind {A : Type 0} (h : Handed A) (k : Known) (s : EventStream A) (lines : List (List ℕ)) : Type 0 where
   pub stream : StandsFor k s lines
   pub handed : IsHanded k h.judge h.events.items
+
+-- the events that a stream has may be handed on, where none is left of those before
+pub record CanHandOn {A : Type 0} (h : Handed A) (s : EventStream A) : Type 0 where
+  pub some : (k : Known) × grammar.StandsForSome (StandsBehind h k s)
+  pub none : h.events.items ≡ []
+  pub begun : IsTrue (has_events s)
+  pub block : is_block h.judging.block ≡ true
 
 -- what is known of a stream when its events are handed on too
 abbrev pub known_behind : {A : Type 0} → Known → EventStream A → Known

@@ -1,6 +1,5 @@
 //! The engine of `gorace draw`: a trace's text in, drawings of its races out.
-ghost use Rattle.std.specs.Prelude.{◌≡◌, All, ℕ, List, Option, None, IfOk};
-ghost use Rattle.race_records.specs.Events.{TraceState};
+ghost use Rattle.std.specs.Prelude.{◌≡◌, All, ℕ, List, Option, IfOk};
 ghost use Rattle.race_model.specs.Legal.{IsLegal};
 ghost use Rattle.race_text.specs.Text.{IsTextOf};
 ghost use Rattle.race_verdict.specs.Traces.{capacities, HasVerdict};
@@ -14,12 +13,8 @@ use crate::input::read_text;
 use crate::reply::{Reply, Shown};
 use crate::status;
 use crate::witness::race_on;
-use race_draw::{
-    MAX_CLEAN_EVENTS, chart_in_memory, drawings_in_memory, lay_out_all, lay_out_clean, write_svg,
-    write_text,
-};
+use race_draw::{draw_clean, draw_races, write_text};
 use race_records::{Sink, Source, Trace, WriteFault};
-use race_report::write_report;
 use race_shards::judge_alone;
 use race_text::Reader;
 use race_verdict::{Race, Verdict};
@@ -28,9 +23,9 @@ use std::io::{Read, Write};
 
 /// Draws the race on a variable, or without a name that of each variable that has one: reads a trace's text in blocks, and
 /// writes a text of the two goroutines, what the second access has seen of the first one's, and the way that is missing;
-/// or that text as an SVG document. It stops reading behind the block that ends the first faulty line.
+/// or a short clean trace; as an SVG document, if it is asked for. It stops reading behind the block that ends the first faulty line.
 ///
-/// The answer is a status. 0: the drawings are out, or without a name the line of a clean trace; 2, 1 and 14: instead of
+/// The answer is a status. 0: the drawings are out, or without a name the line of a longer clean trace; 2, 1 and 14: instead of
 /// them one line tells the text fault, the illegal event, or that there is no such race, looked for in this order; 4: memory
 /// was refused; 5: a device failed.
 ///
@@ -104,21 +99,11 @@ impl<'a, A: Allocator + Copy> Drawing<'a, A> {
     {
         match self.name {
             Some(_) => Ok(Reply::NoRace),
-            None => Ok(Reply::Found(self.chart(trace)?)),
+            None => {
+                let text = draw_clean(self.alloc, &trace, self.svg)?;
+                Ok(Reply::Found(Drawn { text }))
+            }
         }
-    }
-
-    // The chart of a clean trace, where it has one.
-    fn chart(&self, trace: Trace<A>) -> Result<Drawn<A>, AllocError>
-        requires { HasVerdict trace model.Clean }
-        ensures { IfOk result (spec.IsDrawnOf None self.now.svg trace) }
-    {
-        if !has_chart(trace.len()) {
-            return Ok(Drawn::Clean(trace));
-        }
-        let layout = lay_out_clean(self.alloc, &trace)?;
-        let text = chart_in_memory(self.alloc, &trace, &layout)?;
-        Ok(self.shown(text))
     }
 
     // What there is to reply to a trace with these races.
@@ -146,29 +131,9 @@ impl<'a, A: Allocator + Copy> Drawing<'a, A> {
         ensures { IfOk result (λ drawn. (name : Option (List ℕ)) → spec.AreAsked trace.now name races.now
             → spec.IsDrawnOf name self.now.svg trace.now drawn) }
     {
-        let layouts = lay_out_all(self.alloc, trace, races)?;
-        let text = drawings_in_memory(self.alloc, trace, layouts.as_slice())?;
-        Ok(self.shown(text))
+        let text = draw_races(self.alloc, trace, races, self.svg)?;
+        Ok(Drawn { text })
     }
-
-    // The text, or its picture.
-    fn shown(&self, text: Vec<u8, A>) -> Drawn<A>
-        ensures { (trace : TraceState) (name : Option (List ℕ)) → spec.IsDrawnText trace name text.items
-            → spec.IsDrawnOf name self.now.svg trace result }
-    {
-        if self.svg {
-            Drawn::Svg(text)
-        } else {
-            Drawn::Text(text)
-        }
-    }
-}
-
-// Whether a clean trace of so many events has a chart.
-fn has_chart(events: usize) -> bool
-    ensures { result ≡ spec.has_chart events }
-{
-    0 < events && events <= MAX_CLEAN_EVENTS
 }
 
 impl<'a, A: Allocator + Copy> Engine for Drawing<'a, A> {
@@ -185,13 +150,8 @@ impl<'a, A: Allocator + Copy> Engine for Drawing<'a, A> {
 
 /// What is drawn of a trace.
 #[derive(Drop)]
-pub(crate) enum Drawn<A: Allocator> {
-    /// No variable is named, and this clean trace has no events, or too many to draw.
-    Clean(Trace<A>),
-    /// The text of what is asked for.
-    Text(Vec<u8, A>),
-    /// The same, where an SVG document is asked for.
-    Svg(Vec<u8, A>),
+pub(crate) struct Drawn<A: Allocator> {
+    text: Vec<u8, A>,
 }
 
 impl<A: Allocator> Shown for Drawn<A> {
@@ -205,14 +165,7 @@ impl<A: Allocator> Shown for Drawn<A> {
     ghost status_for = { drawing_status };
 
     fn write<W: Write>(&self, sink: &mut Sink<W>) -> Result<(), WriteFault> {
-        match self {
-            Drawn::Clean(trace) => {
-                let verdict: Verdict<A> = Verdict::Clean;
-                write_report(trace, &verdict, sink)
-            }
-            Drawn::Text(text) => write_text(text.as_slice(), sink),
-            Drawn::Svg(text) => write_svg(text.as_slice(), sink),
-        }
+        write_text(self.text.as_slice(), sink)
     }
 
     fn status(&self) -> u8 {

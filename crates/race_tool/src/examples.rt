@@ -1,6 +1,7 @@
 //! Some statuses, and which traces have charts. Each function does nothing, and its contract is the example.
 ghost use Rattle.std.specs.Prelude.{◌≡◌, ◌≢◌, true, false};
-ghost use Rattle.race_tool.specs.{declared.input.ReadFault.ReadFault, Draw.has_chart, Outcome.status_of_fault};
+ghost use Rattle.race_draw.specs.Clean.{has_chart};
+ghost use Rattle.race_tool.specs.{declared.input.ReadFault.ReadFault, Outcome.status_of_fault};
 
 /// A reader that fails and an input that doesn't end are told alike, and want of memory otherwise.
 pub fn an_endless_input_is_the_devices()

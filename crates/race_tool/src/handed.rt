@@ -1,10 +1,10 @@
 //! The events of a trace that were handed on, and their judge.
-ghost use Rattle.std.specs.Prelude.{◌≡◌, ◌<◌, ◌++◌, true, [], Some, None, List, IsTrue, IfOk, IfSome, OnOk};
+ghost use Rattle.std.specs.Prelude.{◌≡◌, ◌<◌, ◌++◌, true, [], Some, None, List, IfOk, IfSome, OnOk};
 ghost use Rattle.race_records.specs.{declared.event.Event.Event, Declarations.Declaration};
 ghost use Rattle.race_shards.specs.Judging as judges;
 ghost use Rattle.race_shards.specs.Limits.{is_block};
 ghost use Rattle.race_text.specs.Grammar as grammar;
-ghost use Rattle.race_text.specs.Stream.{Known, decls_of, events_of, has_events};
+ghost use Rattle.race_text.specs.Stream.{Known, decls_of, events_of};
 ghost use Rattle.race_tool.specs.Streams as spec;
 
 use race_records::{Decls, Event};
@@ -79,10 +79,7 @@ impl<A: Allocator + Copy + Send> Handed<A> {
 
     /// Takes the events that were read, where none is left.
     pub(crate) fn take(&mut self, alloc: A, stream: &mut EventStream<A>) -> Result<(), AllocError>
-        requires some { (k : Known) × grammar.StandsForSome (spec.StandsBehind self.old k stream.old) }
-        requires none { self.old.events.items ≡ [] }
-        requires begun { IsTrue (has_events stream.old) }
-        requires block { is_block self.old.judging.block ≡ true }
+        requires { spec.CanHandOn self.old stream.old }
         ensures stands { OnOk result ((k : Known) → grammar.ForEachLines (spec.StandsBehind self.old k stream.old)
             (spec.StandsBehind self.new (spec.known_behind k stream.old) stream.new)) }
         ensures can { OnOk result (spec.CanJudgeAll self.new) }

@@ -1,6 +1,7 @@
 //! The engines of the race detector: bytes in, bytes out.
 #![tactic(auto)]
 
+mod certify;
 mod check;
 mod draw;
 mod edges;
@@ -11,6 +12,8 @@ mod input;
 mod intake;
 mod judged;
 pub mod laws;
+mod predict;
+mod predict_printing;
 mod printing;
 mod race;
 mod race_printing;
@@ -21,9 +24,11 @@ pub mod status;
 mod stream_found;
 mod witness;
 
+pub use certify::run_certify;
 pub use check::{CheckOptions, run_check};
 pub use draw::run_draw;
 pub use edges::run_edges;
+pub use predict::{MAX_PREDICTED, PredictOptions, run_predict};
 pub use race::run_race;
 pub use race_record::MAX_WORKERS;
 pub use race_shards::{MAX_BLOCK, MAX_SHARDS};

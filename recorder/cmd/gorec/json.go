@@ -9,12 +9,14 @@ import (
 
 // An event is a line of -json. The last one of a package has its verdict.
 type event struct {
-	Action  string // output; race, of one race; pass, fail, skip, or racing, with the verdict
+	Action  string // output; race, of one race; predicted, of one; pass, fail, skip, or racing, with the verdict
 	Package string
 	Output  string    `json:",omitempty"`
 	Elapsed float64   `json:",omitempty"`
 	Race    *toldRace `json:",omitempty"`
 	Verdict *verdict  `json:",omitempty"`
+
+	Predicted *toldPrediction `json:",omitempty"`
 }
 
 // toldRace is what is known of a race.
@@ -23,8 +25,15 @@ type toldRace struct {
 	Accesses [2]toldAccess
 }
 
+// toldPrediction is what is known of a race of another order of the run.
+type toldPrediction struct {
+	toldRace
+	Order string // how that comes to the race
+}
+
 type toldAccess struct {
 	access
+	Change  bool         `json:",omitempty"` // the read stands for a change
 	Behind  string       // what it held, and last synchronized by
 	Stack   []frame      `json:",omitempty"`
 	Started *startedFrom `json:",omitempty"` // unless it is main
@@ -40,6 +49,8 @@ type startedFrom struct {
 type verdict struct {
 	Status          int // as gorec's, of this package alone
 	Races           int
+	Predicted       int `json:",omitempty"`
+	NotSearched     int `json:",omitempty"` // variables, in other orders
 	Events, Records int
 	Cut             string `json:",omitempty"` // why the trace is cut off, and where
 	Ended           string `json:",omitempty"` // how the program failed
@@ -113,12 +124,16 @@ var actions = map[int]string{0: "pass", cutOff: "pass", racing: "racing"}
 func (e *eventWriter) verdict(o *outcome) {
 	for _, s := range o.racing {
 		for _, r := range s.races {
-			e.write(event{Action: "race", Race: &toldRace{r.Variable, [2]toldAccess{s.told(r.First), s.told(r.Second)}}})
+			race := s.toldRace(r)
+			e.write(event{Action: "race", Race: &race})
+		}
+		for _, r := range s.predicted {
+			e.write(event{Action: "predicted", Predicted: &toldPrediction{s.toldRace(r), r.inAnotherOrder()}})
 		}
 	}
 	v := &verdict{
-		Status: o.status, Races: len(o.races), Events: o.summary.Events, Records: o.summary.Records, Cut: o.summary.Cut,
-		Seed: o.seed, Trace: o.trace,
+		Status: o.status, Races: len(o.races), Predicted: len(o.predicted), NotSearched: o.notSearched,
+		Events: o.summary.Events, Records: o.summary.Records, Cut: o.summary.Cut, Seed: o.seed, Trace: o.trace,
 	}
 	if o.ended != nil {
 		v.Ended = o.ended.Error()
@@ -130,9 +145,15 @@ func (e *eventWriter) verdict(o *outcome) {
 	e.write(event{Action: action, Elapsed: o.elapsed.Seconds(), Verdict: v})
 }
 
+// toldRace is a race, with what is known of it.
+func (o *outcome) toldRace(r race) toldRace {
+	return toldRace{r.Variable, [2]toldAccess{o.told(r.First), o.told(r.Second)}}
+}
+
 // told is an access, with what is known of its goroutine.
 func (o *outcome) told(a access) toldAccess {
-	t := toldAccess{access: a, Behind: o.moments[a.Event].String(), Stack: o.stacks[o.moments[a.Event].Stack]}
+	m := o.moments[a.Event]
+	t := toldAccess{access: a, Change: m.Change, Behind: m.String(), Stack: o.stacks[m.Stack]}
 	if s := lastBefore(o.summary.Starts[a.Goroutine], a.Event); s != nil {
 		t.Started = &startedFrom{s.By, s.Place, o.stacks[s.Stack]}
 	}

@@ -69,27 +69,29 @@ func judgeWords(command string) []string {
 	return strings.Fields(command)
 }
 
-// ask has a trace judged. The report is written, and stands in the outcome, with its status.
-// Where a signal for the program has ended the judge too, it is asked once more.
-func (j *judge) ask(k *process.Keeper, path string, to, notes io.Writer, o *outcome) error {
+// ask has a command judge a trace. The report is written, and stands in the outcome, with its
+// status. Where a signal for the program has ended the judge too, it is asked once more.
+func (j *judge) ask(k *process.Keeper, command, path string, to, notes io.Writer, o *outcome) error {
 	interrupted := k.Interrupted()
-	err := j.askOnce(k, path, to, notes, o)
+	err := j.askOnce(k, command, path, to, notes, o)
 	if err != nil && !interrupted && k.Interrupted() {
-		err = j.askOnce(k, path, to, notes, o)
+		err = j.askOnce(k, command, path, to, notes, o)
 	}
 	return err
 }
 
-func (j *judge) askOnce(k *process.Keeper, path string, to, notes io.Writer, o *outcome) error {
+func (j *judge) askOnce(k *process.Keeper, command, path string, to, notes io.Writer, o *outcome) error {
 	in, err := os.Open(path)
 	if err != nil {
 		return err
 	}
 	defer in.Close()
-	var report bytes.Buffer
-	cmd := exec.Command(j.words[0], append(j.words[1:], "check")...)
-	cmd.Stdin, cmd.Stdout, cmd.Stderr = in, io.MultiWriter(to, &report), notes
+	var output bytes.Buffer
+	cmd := exec.Command(j.words[0], append(j.words[1:], command)...)
+	cmd.Stdin, cmd.Stdout, cmd.Stderr = in, &output, notes
 	err = k.Run(cmd)
+	o.read(output.String())
+	io.WriteString(to, o.report)
 	var ended *exec.ExitError
 	switch {
 	case err == nil:
@@ -98,7 +100,5 @@ func (j *judge) askOnce(k *process.Keeper, path string, to, notes io.Writer, o *
 	default:
 		return fmt.Errorf("the trace wasn't judged: %w", err)
 	}
-	o.report = report.String()
-	o.races = racesOf(o.report)
 	return nil
 }

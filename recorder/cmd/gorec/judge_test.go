@@ -65,7 +65,7 @@ race on x_2: write by g1 at a.go:3 (event 6), read by main at a.go:9 (event 9)
 race on y: read by g1 at a.go:4 (event 20), write by g2 at a.go:5 (event 21)
 races: 3
 `
-	o := &outcome{races: racesOf(report), summary: &trace.Summary{
+	o := &outcome{races: racesOf(report, raceLine), summary: &trace.Summary{
 		Events: 21,
 		Cut:    "more than 65,535 variables, at a.go:7",
 		Starts: map[string][]trace.Start{

@@ -24,6 +24,7 @@ type recording struct {
 	out, log, judge, seed string
 	format, runs, records int
 	all, json, stacks     bool
+	predict               bool
 }
 
 func (r *recording) define(flags *flag.FlagSet) {
@@ -37,6 +38,7 @@ func (r *recording) define(flags *flag.FlagSet) {
 	flags.BoolVar(&r.all, "all", false, "keep what one goroutine alone uses")
 	flags.IntVar(&r.records, "records", 0, "judge the log each `N` records, up to 20,971,520, while the program goes on; 0: 524,288, or 4,194,304 of tests")
 	flags.BoolVar(&r.stacks, "stacks", true, "record the calls that led to each access")
+	flags.BoolVar(&r.predict, "predict", false, "tell races of other orders of the run too, with status 66; writes version 2")
 	flags.BoolVar(&r.json, "json", false, "write lines of JSON: output, races and verdicts")
 }
 
@@ -57,6 +59,8 @@ func (r *recording) check() error {
 		return fmt.Errorf("-format %d: a trace has version 1 or 2", r.format)
 	case r.format == 0 && version != "" && (err != nil || n < 1 || n > wire.Newest):
 		return errors.New("GOREC_FORMAT=" + version + ": a trace has version 1 or 2")
+	case r.predict && r.format == 1:
+		return errors.New("-predict: a trace of version 1 doesn't say which TryLock failed; leave out -format 1")
 	case r.records != 0 && (r.records < fewestRecords || r.records > mostRecords):
 		return fmt.Errorf("-records %d: a log has from 1,024 to 20,971,520", r.records)
 	case r.runs < 1:
@@ -77,6 +81,9 @@ type session struct {
 func (r *recording) begin(k *process.Keeper) (*session, error) {
 	if err := r.check(); err != nil {
 		return nil, err
+	}
+	if r.predict {
+		r.format = wire.Newest
 	}
 	judge, err := findJudge(r.judge)
 	if err != nil {
@@ -113,8 +120,12 @@ type outcome struct {
 	races   []race
 	moments map[int]trace.Moment // of the races' accesses, by event
 	stacks  stackTable
-	racing  []*outcome // of a run: its segments with races
+	racing  []*outcome // of a run: its segments with races, predicted ones too
 	trace   string     // where it is kept
+
+	predicted   []race
+	predictions string // as the judge tells them
+	notSearched int    // so many variables, in other orders
 }
 
 // repeat runs a program until a race is found, as often as is wanted.
@@ -184,7 +195,8 @@ func (s *session) once(t *target, c *console, seed string) (*outcome, error) {
 
 // recordAndJudge runs a program. Parts of a long run are judged while it goes on.
 func (s *session) recordAndJudge(t *target, c *console, log string, out *traceFile, o *outcome) error {
-	j := &judging{session: s, t: t, c: c, log: log, out: out, o: o, told: map[string]bool{}, ends: map[string]int{}}
+	j := &judging{session: s, t: t, c: c, log: log, out: out, o: o, told: map[string]bool{}, ends: map[string]int{},
+		unpredicted: map[string]int{}}
 	ended, judged := make(chan struct{}), make(chan error, 1)
 	go func() { judged <- j.follow(ended) }()
 	err := s.record(t, c, log, o)

@@ -23,13 +23,19 @@ type race struct {
 	First, Second access
 }
 
-// raceLine is a race's line in a report.
-var raceLine = regexp.MustCompile(`(?m)^race on (\S+): (\w+) by (\w+) at (\S+) \(event (\d+)\), (\w+) by (\w+) at (\S+) \(event (\d+)\)$`)
+// raceLine is the line of a race in a report.
+var raceLine = lineOf("race")
 
-// racesOf are the races of a report.
-func racesOf(report string) []race {
+// lineOf matches the lines of races that a report calls so.
+func lineOf(what string) *regexp.Regexp {
+	const side = `(\w+) by (\w+) at (\S+) \(event (\d+)\)`
+	return regexp.MustCompile(`(?m)^` + what + ` on (\S+): ` + side + `, ` + side + `$`)
+}
+
+// racesOf are the races of a report, in lines of that form.
+func racesOf(report string, line *regexp.Regexp) []race {
 	var races []race
-	for _, m := range raceLine.FindAllStringSubmatch(report, -1) {
+	for _, m := range line.FindAllStringSubmatch(report, -1) {
 		first, _ := strconv.Atoi(m[5])
 		second, _ := strconv.Atoi(m[9])
 		races = append(races, race{m[1], access{m[2], m[3], m[4], first}, access{m[6], m[7], m[8], second}})
@@ -41,9 +47,14 @@ func racesOf(report string) []race {
 // started it, and how it came there.
 func (o *outcome) explain(w io.Writer) {
 	groups(w, o.races)
-	holdings(w, o.races, o.moments)
-	starters(w, o.races, o.summary.Starts)
-	o.tellStacks(w)
+	o.tellMore(w, o.races, map[string]bool{})
+}
+
+// tellMore tells of races what is known of their accesses. What was told is told no more.
+func (o *outcome) tellMore(w io.Writer, races []race, told map[string]bool) {
+	holdings(w, races, o.moments, told)
+	starters(w, races, o.summary.Starts, told)
+	o.tellStacks(w, races, told)
 }
 
 // groups tells which pairs of places race, where many variables do at few of them.
@@ -69,24 +80,26 @@ func groups(w io.Writer, races []race) {
 	}
 }
 
-// events are those of the races' accesses.
+// events are those of the accesses of races, predicted ones too.
 func (o *outcome) events() map[int]bool {
 	events := map[int]bool{}
-	for _, r := range o.races {
+	for _, r := range o.all() {
 		events[r.First.Event], events[r.Second.Event] = true, true
 	}
 	return events
 }
 
+// all are the races of a report, those of the recorded order first.
+func (o *outcome) all() []race { return append(o.races[:len(o.races):len(o.races)], o.predicted...) }
+
 // holdings tells what each of the two of a race held and last synchronized by. Of races at the
 // same places the first is told.
-func holdings(w io.Writer, races []race, moments map[int]trace.Moment) {
-	told := map[string]bool{}
+func holdings(w io.Writer, races []race, moments map[int]trace.Moment, told map[string]bool) {
 	for _, r := range races {
 		lines, places := "", ""
 		for _, a := range []access{r.First, r.Second} {
 			if m, there := moments[a.Event]; there {
-				lines += fmt.Sprintf("%s's %s of %s: %s\n", a.Goroutine, a.Kind, r.Variable, m)
+				lines += fmt.Sprintf("%s's %s of %s%s: %s\n", a.Goroutine, a.Kind, r.Variable, forChange(m), m)
 				places += a.Kind + a.Place + m.String()
 			}
 		}
@@ -97,9 +110,16 @@ func holdings(w io.Writer, races []race, moments map[int]trace.Moment) {
 	}
 }
 
+// forChange says of a read that the program changes there what is read.
+func forChange(m trace.Moment) string {
+	if m.Change {
+		return " for a change"
+	}
+	return ""
+}
+
 // starters tells where the goroutines of the races were started.
-func starters(w io.Writer, races []race, starts map[string][]trace.Start) {
-	told := map[string]bool{}
+func starters(w io.Writer, races []race, starts map[string][]trace.Start, told map[string]bool) {
 	for _, r := range races {
 		for _, a := range []access{r.First, r.Second} {
 			s := lastBefore(starts[a.Goroutine], a.Event)

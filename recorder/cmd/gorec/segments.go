@@ -44,6 +44,8 @@ type judging struct {
 	cut      string          // why one ended that none follows
 
 	forgotten int // variables that one goroutine alone had used
+
+	unpredicted map[string]int // why segments weren't searched for races of other orders
 }
 
 // follow has each part judged once the run goes on in another one, until the program has ended.
@@ -105,8 +107,8 @@ func (j *judging) path() string {
 
 // judgePart has the segments of a part judged. Then the program may go on with another one.
 func (j *judging) judgePart(log *trace.Log) error {
-	successor := log.Successor()
-	j.forgotten += log.Forgotten()
+	successor, forgotten := log.Successor(), log.Forgotten()
+	j.forgotten += forgotten
 	defer j.pass(log)
 	options := j.traceOptions(log)
 	if err := checkVersion(log, options); err != nil {
@@ -117,7 +119,11 @@ func (j *judging) judgePart(log *trace.Log) error {
 	defer debug.FreeOSMemory()
 	s := trace.NewSegments(log.Records(), options)
 	for {
-		if err := j.judgeSegment(s, options, successor); err != nil {
+		command, why := j.judgedBy(s.HasAllVariables(), forgotten)
+		if why != "" {
+			j.unpredicted[why]++
+		}
+		if err := j.judgeSegment(s, command, options, successor); err != nil {
 			return err
 		}
 		if !s.Next() {
@@ -134,7 +140,7 @@ var partEnds = map[wire.Successor]string{
 
 // judgeSegment has a segment judged. Where it is the only one of the run its report is printed as it
 // comes; else that of a clean one is a note.
-func (j *judging) judgeSegment(s *trace.Segments, options trace.Options, successor wire.Successor) error {
+func (j *judging) judgeSegment(s *trace.Segments, command string, options trace.Options, successor wire.Successor) error {
 	goesOn := successor != wire.NoSuccessor
 	file, path, done, err := j.traceOf()
 	if err != nil {
@@ -152,24 +158,31 @@ func (j *judging) judgeSegment(s *trace.Segments, options trace.Options, success
 	only := j.segments == 1 && !goesOn && !s.More()
 	if only {
 		fmt.Fprintln(j.c.notes, "gorec: "+o.summary.Counts())
-		err = j.judge.ask(j.keeper, path, j.c.out, j.c.notes, o)
+		err = j.judge.ask(j.keeper, command, path, j.c.out, j.c.notes, o)
 	} else {
-		err = j.askBeside(path, o)
+		err = j.askBeside(command, path, o)
 	}
 	if err != nil {
 		return err
 	}
-	if len(o.races) > 0 {
+	if len(o.all()) > 0 {
 		if o.moments, err = s.Moments(j.t.copied.Sites, options, o.events()); err != nil {
 			return err
 		}
 		o.stacks = readStacks(j.log + stacksSuffix)
 	}
-	if j.isNew(o) {
+	isNew := j.isNew(o)
+	if isNew {
 		o.explain(j.c.out)
 	}
-	for i := range o.races {
-		j.told[o.races[i].places()] = true
+	if isNew || only {
+		o.tellPredicted(j.c.out)
+	}
+	for _, r := range o.races {
+		j.told[r.places()] = true
+	}
+	for _, r := range o.predicted {
+		j.told[predicted+r.places()] = true
 	}
 	if only {
 		tell(j.c.out, o.summary, j.t.Missed)
@@ -183,10 +196,18 @@ func (r *race) places() string {
 	return fmt.Sprint(r.First.Kind, r.First.Place, r.Second.Kind, r.Second.Place)
 }
 
+// predicted stands in front of the places of a race that was predicted.
+const predicted = "predicted "
+
 // isNew reports whether a segment has a race at other places than those that were told.
 func (j *judging) isNew(o *outcome) bool {
-	for i := range o.races {
-		if !j.told[o.races[i].places()] {
+	for _, r := range o.races {
+		if !j.told[r.places()] {
+			return true
+		}
+	}
+	for _, r := range o.predicted {
+		if !j.told[r.places()] && !j.told[predicted+r.places()] {
 			return true
 		}
 	}
@@ -215,9 +236,9 @@ func (j *judging) traceOf() (f *os.File, path string, done func(), err error) {
 }
 
 // askBeside has one of several segments judged.
-func (j *judging) askBeside(path string, o *outcome) error {
+func (j *judging) askBeside(command, path string, o *outcome) error {
 	var report bytes.Buffer
-	if err := j.judge.ask(j.keeper, path, &report, j.c.notes, o); err != nil {
+	if err := j.judge.ask(j.keeper, command, path, &report, j.c.notes, o); err != nil {
 		return err
 	}
 	fmt.Fprintf(j.c.notes, "gorec: segment %d: %s\n", j.segments, o.summary.Counts())
@@ -225,8 +246,8 @@ func (j *judging) askBeside(path string, o *outcome) error {
 	switch {
 	case o.status == 0:
 		fmt.Fprintf(j.c.notes, "gorec: segment %d: %s\n", j.segments, first)
-	case len(o.races) > 0 && !j.isNew(o):
-		fmt.Fprintf(j.c.notes, "gorec: segment %d: %d races, at places that were told\n", j.segments, len(o.races))
+	case len(o.all()) > 0 && !j.isNew(o):
+		fmt.Fprintf(j.c.notes, "gorec: segment %d: %d races, at places that were told\n", j.segments, len(o.all()))
 	default:
 		_, err := report.WriteTo(j.c.out)
 		return err
@@ -239,10 +260,12 @@ func (j *judging) askBeside(path string, o *outcome) error {
 func (j *judging) add(o *outcome, followed bool) {
 	run := j.o
 	run.status = worse(o.status, run.status)
-	if len(o.races) > 0 {
+	run.notSearched += o.notSearched
+	if len(o.all()) > 0 {
 		j.racing++
 		run.racing = append(run.racing, o)
 		run.races = append(run.races, o.races...)
+		run.predicted = append(run.predicted, o.predicted...)
 	}
 	if run.summary == nil {
 		sum := *o.summary
@@ -266,8 +289,12 @@ func (j *judging) tell() {
 		fmt.Fprintf(j.c.out, "gorec: there was no room for all variables: %d times one was forgotten that one goroutine alone had used; "+
 			"with what that did no race is told\n", j.forgotten)
 	}
+	j.tellDoubts()
 	if j.segments == 1 {
 		return
+	}
+	if j.predict {
+		fmt.Fprintf(j.c.out, "gorec: of all traces predicted: %d, not searched: %d variables\n", len(j.o.predicted), j.o.notSearched)
 	}
 	tell(j.c.out, j.o.summary, j.t.Missed)
 	var reasons []string

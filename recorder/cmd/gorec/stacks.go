@@ -69,21 +69,20 @@ func near(place string) string {
 // tellStacks writes for each race how its two accesses came about, and how the goroutines that
 // did them were started; the later access first, as Go's detector does. Races with the same
 // two stacks are told once.
-func (o *outcome) tellStacks(w io.Writer) {
+func (o *outcome) tellStacks(w io.Writer, races []race, told map[string]bool) {
 	if len(o.stacks) == 0 {
 		return
 	}
-	told := map[string]bool{}
-	for _, r := range o.races {
+	for _, r := range races {
 		first, second := o.moments[r.First.Event].Stack, o.moments[r.Second.Event].Stack
 		key := fmt.Sprint(r.First.Kind, first, r.Second.Kind, second)
 		if told[key] {
 			continue
 		}
 		told[key] = true
-		fmt.Fprintf(w, "==================\n%s by %s:\n", title(r.Second.Kind), r.Second.Goroutine)
+		fmt.Fprintf(w, "==================\n%s by %s:\n", title(o.kind(r.Second)), r.Second.Goroutine)
 		o.stacks.show(w, second)
-		fmt.Fprintf(w, "\nPrevious %s by %s:\n", r.First.Kind, r.First.Goroutine)
+		fmt.Fprintf(w, "\nPrevious %s by %s:\n", o.kind(r.First), r.First.Goroutine)
 		o.stacks.show(w, first)
 		o.tellCreation(w, r.Second)
 		if r.First.Goroutine != r.Second.Goroutine {
@@ -91,6 +90,14 @@ func (o *outcome) tellStacks(w io.Writer) {
 		}
 		fmt.Fprintln(w, "==================")
 	}
+}
+
+// kind is what the program did: a read that stands for a change is a write.
+func (o *outcome) kind(a access) string {
+	if o.moments[a.Event].Change {
+		return "write"
+	}
+	return a.Kind
 }
 
 func title(word string) string { return strings.ToUpper(word[:1]) + word[1:] }

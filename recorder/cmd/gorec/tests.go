@@ -220,6 +220,9 @@ func (c *testRun) result(w io.Writer, p *instrument.Program, o *outcome, noTests
 	switch {
 	case o.status == racing:
 		word, more = "RACE", fmt.Sprintf("\traces: %d", len(o.races))
+		if c.predict {
+			more += fmt.Sprintf(", predicted: %d", len(o.predicted))
+		}
 	case o.status != 0 && o.status != cutOff:
 		word = "FAIL"
 	case o.summary.Cut != "":

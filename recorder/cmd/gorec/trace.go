@@ -19,6 +19,7 @@ var traceCommand = command{
 	prepare: func(flags *flag.FlagSet) func(*process.Keeper, []string) (int, error) {
 		all := flags.Bool("all", false, "keep what one goroutine alone uses")
 		format := flags.Int("format", 0, "the `version` of the trace, 1 or 2; without it that of the log")
+		predict := flags.Bool("predict", false, "write what gorace predict needs: a read before each change of a map and the like")
 		return func(_ *process.Keeper, args []string) (int, error) {
 			if len(args) != 2 {
 				return 0, &usageError{"trace", errors.New("a log and its sites have to be named")}
@@ -26,14 +27,14 @@ var traceCommand = command{
 			if *format < 0 || *format > wire.Newest {
 				return 0, fmt.Errorf("-format %d: a trace has version 1 or 2", *format)
 			}
-			return 0, printTrace(args[0], args[1], *format, *all)
+			return 0, printTrace(args[0], args[1], trace.Options{Version: *format, All: *all, Predict: *predict})
 		}
 	},
 }
 
 // printTrace writes the trace of a log to standard output, and what is to be known of it to
 // standard error.
-func printTrace(path, sitesPath string, format int, all bool) error {
+func printTrace(path, sitesPath string, options trace.Options) error {
 	table, err := sites.Read(sitesPath)
 	if err != nil {
 		return err
@@ -43,7 +44,7 @@ func printTrace(path, sitesPath string, format int, all bool) error {
 		return err
 	}
 	defer log.Close()
-	options := traceOptions(log, format, all)
+	options = traceOptions(log, options)
 	if err := checkVersion(log, options); err != nil {
 		return err
 	}

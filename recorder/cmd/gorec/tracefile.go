@@ -123,8 +123,13 @@ func (s *session) tellTrace(w io.Writer, o *outcome) {
 	case o.status == 0:
 	case o.trace == "":
 		fmt.Fprintln(w, "gorec: the trace isn't kept; -o FILE keeps it")
-	case len(o.races) > 0:
-		fmt.Fprintf(w, "gorec: to see why: %s draw %s < %s\n", s.judge.shown, o.races[0].Variable, shown(o.trace))
+	case len(o.all()) > 0:
+		if len(o.races) > 0 {
+			fmt.Fprintf(w, "gorec: to see why: %s draw %s < %s\n", s.judge.shown, o.races[0].Variable, shown(o.trace))
+		}
+		if len(o.predicted) > 0 {
+			fmt.Fprintf(w, "gorec: to see the other order: %s\n", s.judge.drawsPredicted(o.predicted[0].Variable, shown(o.trace)))
+		}
 	default:
 		fmt.Fprintf(w, "gorec: the trace: %s\n", shown(o.trace))
 	}
@@ -153,15 +158,16 @@ func shown(path string) string {
 
 // traceOptions are those that the flags ask for.
 func (r *recording) traceOptions(log *trace.Log) trace.Options {
-	return traceOptions(log, r.format, r.all)
+	return traceOptions(log, trace.Options{Version: r.format, All: r.all, Predict: r.predict})
 }
 
 // traceOptions ask for a version, or, with 0, for the one that the log is for.
-func traceOptions(log *trace.Log, version int, all bool) trace.Options {
-	if version == 0 {
-		version = log.Version()
+func traceOptions(log *trace.Log, o trace.Options) trace.Options {
+	if o.Version == 0 {
+		o.Version = log.Version()
 	}
-	return trace.Options{Version: version, All: all, Variables: log.Variables()}
+	o.Variables = log.Variables()
+	return o
 }
 
 // checkVersion refuses a newer version than that which the log is for.

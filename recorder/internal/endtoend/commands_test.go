@@ -32,9 +32,15 @@ func judgeSaying(t *testing.T, path, report string, status int) string {
 // runTool runs gorec over the programs of testdata/commands.
 func runTool(t *testing.T, args ...string) (stdout, stderr string, status int) {
 	t.Helper()
+	return runIn(t, root+"/testdata/commands", args...)
+}
+
+// runIn runs gorec in a folder.
+func runIn(t *testing.T, folder string, args ...string) (stdout, stderr string, status int) {
+	t.Helper()
 	var out, errs bytes.Buffer
 	cmd := exec.Command(gorec, args...)
-	cmd.Dir = root + "/testdata/commands"
+	cmd.Dir = folder
 	cmd.Stdout, cmd.Stderr = &out, &errs
 	cmd.Run()
 	return out.String(), errs.String(), cmd.ProcessState.ExitCode()

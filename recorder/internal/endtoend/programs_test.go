@@ -18,6 +18,7 @@ var seeds = []string{"1", "2", "3"}
 type batch struct {
 	traces map[string]string // by the run's name
 	checks map[string]func(report string) error
+	clean  map[string]string // traces for predictions, of programs that have no race
 }
 
 func (b *batch) add(run, trace string, check func(string) error) {
@@ -26,15 +27,24 @@ func (b *batch) add(run, trace string, check func(string) error) {
 }
 
 // TestRecordings records the example programs at each seed. Each race that a program tells at
-// its head is found, and no other, and no trace is illegal.
+// its head is found, and no other, and no trace is illegal. Of a program without a race none is
+// predicted.
 func TestRecordings(t *testing.T) {
 	requireJudge(t)
-	b := &batch{traces: map[string]string{}, checks: map[string]func(string) error{}}
+	b := &batch{traces: map[string]string{}, checks: map[string]func(string) error{}, clean: map[string]string{}}
 	addPrograms(t, b)
 	addTries(t, b)
 	for run, report := range judgeAll(t, b.traces) {
 		if err := b.checks[run](report); err != nil {
 			t.Errorf("%s: %v\n%s", run, err, report)
+		}
+	}
+	if *judgeFlag == "unproved" {
+		return // which takes minutes each time
+	}
+	for run, report := range askAll(t, "predict", b.clean) {
+		if !strings.HasPrefix(report, "clean: ") || !strings.HasSuffix(report, "\npredicted: 0\n") {
+			t.Errorf("%s: a race is predicted\n%s", run, report)
 		}
 	}
 }
@@ -51,18 +61,24 @@ func addPrograms(t *testing.T, b *batch) {
 			continue
 		}
 		want := readVerdict(t, filepath.Join(programs, e.Name(), "main.go"))
-		build(t, "./"+e.Name(), filepath.Join(dir, e.Name()))
+		program := filepath.Join(dir, e.Name())
+		build(t, programs, "./"+e.Name(), program)
 		for _, seed := range seeds {
-			b.add(e.Name()+"."+seed, record(t, filepath.Join(dir, e.Name()), seed, want.status), want.check)
+			log := runRecorded(t, program, seed, want.status, "GOREC_FORMAT=2")
+			b.add(e.Name()+"."+seed, writeTrace(t, log, program, "-format", "1"), want.check)
+			if len(want.races) == 0 {
+				b.clean[e.Name()+"."+seed] = writeTrace(t, log, program, "-predict")
+			}
+			os.Remove(log)
 		}
 	}
 }
 
-// build builds an example with the recorder's calls.
-func build(t *testing.T, pkg, program string) {
+// build builds an example of a folder with the recorder's calls.
+func build(t *testing.T, folder, pkg, program string) {
 	t.Helper()
 	cmd := exec.Command(gorec, "build", "-o", program, pkg)
-	cmd.Dir = programs
+	cmd.Dir = folder
 	if out, err := cmd.CombinedOutput(); err != nil {
 		t.Fatalf("%s: %v\n%s", pkg, err, out)
 	}
@@ -71,19 +87,32 @@ func build(t *testing.T, pkg, program string) {
 // record runs a program that was built, and answers the file with its trace.
 func record(t *testing.T, program, seed, status string) string {
 	t.Helper()
+	log := runRecorded(t, program, seed, status)
+	defer os.Remove(log)
+	return writeTrace(t, log, program)
+}
+
+// runRecorded runs a program that was built, and answers its log.
+func runRecorded(t *testing.T, program, seed, status string, env ...string) string {
+	t.Helper()
 	log := program + "." + seed + ".log"
 	cmd := exec.Command(program)
-	cmd.Env = append(os.Environ(), "GOREC_LOG="+log, "GOREC_SEED="+seed)
+	cmd.Env = append(append(os.Environ(), "GOREC_LOG="+log, "GOREC_SEED="+seed), env...)
 	out, err := cmd.CombinedOutput()
 	if got := fmt.Sprint(cmd.ProcessState.ExitCode()); got != status {
 		t.Errorf("%s ended with %s: %v\n%s", program, got, err, out)
 	}
-	text, err := exec.Command(gorec, "trace", log, program+".sites").Output()
-	os.Remove(log)
+	return log
+}
+
+// writeTrace answers the file with the trace of a log, which flags are for.
+func writeTrace(t *testing.T, log, program string, flags ...string) string {
+	t.Helper()
+	text, err := exec.Command(gorec, append(append([]string{"trace"}, flags...), log, program+".sites")...).Output()
 	if err != nil {
 		t.Fatalf("%s: %v", log, err)
 	}
-	path := program + "." + seed + ".gotrace"
+	path := strings.TrimSuffix(log, ".log") + strings.Join(flags, "") + ".gotrace"
 	if err := os.WriteFile(path, text, 0o644); err != nil {
 		t.Fatal(err)
 	}

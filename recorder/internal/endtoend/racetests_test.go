@@ -23,7 +23,7 @@ var expected = map[string]bool{
 }
 
 // TestGoRaceTests runs each of the tests of Go's own race detector alone at five seeds:
-// those that are named TestRace have a race, and TestNoRace none.
+// those that are named TestRace have a race, and TestNoRace none, nor is one predicted of them.
 func TestGoRaceTests(t *testing.T) {
 	requireJudge(t)
 	if *raceTests == "" {
@@ -46,9 +46,10 @@ func TestGoRaceTests(t *testing.T) {
 			traces[name+"."+seed] = recordTest(t, dir, program, name, seed)
 		}
 	}
-	raced := map[string]bool{}
-	for run, report := range judgeAll(t, traces) {
+	raced, otherwise := map[string]bool{}, map[string]bool{}
+	for run, report := range askAll(t, "predict", traces) {
 		name, _, _ := strings.Cut(run, ".")
+		otherwise[name] = otherwise[name] || predicted(report)
 		switch {
 		case strings.Contains("\n"+report, "\nraces: "):
 			raced[name] = raced[name] || races(report)
@@ -57,6 +58,13 @@ func TestGoRaceTests(t *testing.T) {
 		}
 	}
 	compare(t, names, raced)
+	for _, name := range names {
+		if strings.HasPrefix(name, "TestRace") && otherwise[name] && !raced[name] {
+			t.Logf("%s: a race in another order alone", name)
+		} else if otherwise[name] && !raced[name] {
+			t.Errorf("%s: a race in another order", name)
+		}
+	}
 	t.Logf("%d tests, %d traces", len(names), len(traces))
 }
 
@@ -78,9 +86,14 @@ func compare(t *testing.T, names []string, raced map[string]bool) {
 
 // races: a race of the report isn't that of the package's initialization (the variable x
 // of regression_test.go), which each run has.
-func races(report string) bool {
+func races(report string) bool { return tells(report, "race on ") }
+
+// predicted is the same of races of other orders.
+func predicted(report string) bool { return tells(report, "predicted race on ") }
+
+func tells(report, begin string) bool {
 	for _, line := range strings.Split(report, "\n") {
-		if strings.HasPrefix(line, "race on ") && !strings.HasPrefix(line, "race on l_x: ") {
+		if strings.HasPrefix(line, begin) && !strings.HasPrefix(line, begin+"l_x: ") {
 			return true
 		}
 	}
@@ -131,9 +144,9 @@ func recordTest(t *testing.T, dir, program, name, seed string) string {
 	log := filepath.Join(dir, "log")
 	cmd := exec.Command(program, "-test.run", "^"+name+"$", "-test.timeout", "20s")
 	cmd.Dir = dir
-	cmd.Env = append(os.Environ(), "GOREC_LOG="+log, "GOREC_SEED="+seed)
+	cmd.Env = append(os.Environ(), "GOREC_LOG="+log, "GOREC_SEED="+seed, "GOREC_FORMAT=2")
 	cmd.Run()
-	text, err := exec.Command(gorec, "trace", log, program+".sites").Output()
+	text, err := exec.Command(gorec, "trace", "-predict", log, program+".sites").Output()
 	os.Remove(log)
 	if err != nil {
 		t.Fatalf("%s: %v", name, err)

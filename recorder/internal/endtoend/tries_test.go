@@ -59,7 +59,7 @@ func TestTries(t *testing.T) {
 // version 1 has can be left out.
 func TestTriesOfALog(t *testing.T) {
 	program := filepath.Join(t.TempDir(), "trylock")
-	build(t, "./trylock", program)
+	build(t, programs, "./trylock", program)
 	logs := map[string]string{"1": program + ".1", "2": program + ".2"}
 	for version, log := range logs {
 		cmd := exec.Command(program)
@@ -89,7 +89,7 @@ func addTries(t *testing.T, b *batch) {
 	os.Setenv("GOREC_FORMAT", "2")
 	defer os.Unsetenv("GOREC_FORMAT")
 	program := filepath.Join(t.TempDir(), "trylock.2")
-	build(t, "./trylock", program)
+	build(t, programs, "./trylock", program)
 	want := readVerdict(t, filepath.Join(programs, "trylock", "main.go"))
 	for _, seed := range seeds {
 		b.add("trylock.2."+seed, record(t, program, seed, want.status), want.check)

@@ -226,7 +226,7 @@ func (d *declarer) order(i int, o *object) {
 	case d.counts[wire.DeclareOnce] < maxKind:
 		o.word = wire.DeclareOnce
 		d.line(o, "once", name, "")
-	case d.counts[wire.DeclareLock] < maxKind:
+	case d.counts[wire.DeclareLock] < maxKind && !d.Predict: // in another order an rlock needs no lock before it
 		o.word = wire.DeclareLock
 		d.line(o, "rwmutex", name, "")
 	default:

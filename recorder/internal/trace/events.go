@@ -77,7 +77,11 @@ func (d *declarer) print(out io.Writer) (*printer, error) {
 func (p *printer) most(i int) int {
 	switch r := p.at(i); r.Op {
 	case wire.Read, wire.Write:
-		return 1 + len(p.objects[r.Object].atomics)
+		n := 1 + len(p.objects[r.Object].atomics)
+		if p.isChange(r) {
+			n++
+		}
+		return n
 	case wire.Go, wire.Release, wire.Acquire:
 		return 2
 	}
@@ -145,6 +149,9 @@ func (p *printer) access(r *wire.Record) {
 		return
 	}
 	if o.several && o.written || p.All {
+		if p.isChange(r) {
+			p.valued("read", r, o.name, uint64(o.writes))
+		}
 		if r.Op == wire.Write {
 			o.writes++
 		}
@@ -157,6 +164,14 @@ func (p *printer) access(r *wire.Record) {
 			}
 		}
 	}
+}
+
+// isChange reports whether a record changes what a map or an object of the standard library holds,
+// where it has to read that first: what it holds then is a matter of all changes before it, and in
+// another order none of them may be left out.
+func (p *printer) isChange(r *wire.Record) bool {
+	kind := wire.VarKind(p.objects[r.Object].kind)
+	return p.Predict && r.Op == wire.Write && (kind == wire.VarMap || kind == wire.VarContent)
 }
 
 // start writes a go; of a goroutine with another's name, that its go comes before it.

@@ -19,6 +19,8 @@ type Moment struct {
 	Locks []Deed // the oldest first
 	Last  Deed
 	Stack uint32 // of an access: the number of the calls that led there, 0 for none known
+
+	Change bool // the event is the read of a change, whose write stands behind it
 }
 
 // String tells a moment behind the name of an access.
@@ -69,7 +71,7 @@ func momentsOf(s *stretch, table sites.Table, o Options, wanted map[int]bool) (m
 		r := p.at(i)
 		for told < p.events {
 			if told++; wanted[told] {
-				f.moments[told] = f.moment(r)
+				f.moments[told] = f.moment(r, told < p.events)
 			}
 		}
 		f.follow(r)
@@ -78,8 +80,8 @@ func momentsOf(s *stretch, table sites.Table, o Options, wanted map[int]bool) (m
 	return f.moments, err
 }
 
-func (f *follower) moment(r *wire.Record) Moment {
-	m := Moment{Last: f.last[r.Goroutine]}
+func (f *follower) moment(r *wire.Record, goesOn bool) Moment {
+	m := Moment{Last: f.last[r.Goroutine], Change: goesOn && f.isChange(r)}
 	if isAccess(r.Op) {
 		m.Stack = r.OtherSite
 	}

@@ -17,16 +17,26 @@ type reading struct {
 // passes is how many records are read before their memory is given back.
 const passes = 1 << 16
 
-// each calls f with each record that was written.
+// each calls f with each record that was written, and with each access of one that is about
+// several variables.
 func (l reading) each(f func(r *wire.Record)) {
+	var access wire.Record
 	for rest := l.records; len(rest) > 0; {
 		n := passes
 		if n > len(rest) {
 			n = len(rest)
 		}
 		for i := range rest[:n] {
-			if rest[i].Op != wire.None {
-				f(&rest[i])
+			r := &rest[i]
+			switch {
+			case r.Op == wire.None:
+			case isPlain(r.Op) && r.Other != 0:
+				access = *r
+				for access.Other = 0; access.Object <= r.Object+r.Other; access.Object++ {
+					f(&access)
+				}
+			default:
+				f(r)
 			}
 		}
 		if l.passed != nil {

@@ -33,6 +33,25 @@ func TestInOrder(t *testing.T) {
 	}
 }
 
+// An access of neighbours is one of each.
+func TestInOrderOfRuns(t *testing.T) {
+	records := []wire.Record{
+		{Op: wire.DeclareVar, Object: 3}, {Op: wire.DeclareVar, Object: 4}, {Op: wire.DeclareVar, Object: 5},
+		{Op: wire.Write, Object: 3, Other: 2, Site: 9, Goroutine: 1},
+		{Op: wire.Read, Object: 4, Other: 1, Site: 8},
+		{Op: wire.Write, Object: 4, Count: 1},
+	}
+	got := ""
+	for _, r := range orderOf(records) {
+		if isPlain(r.Op) {
+			got += fmt.Sprintf("%d.%d.%d.%d ", r.Object, r.Site, r.Goroutine, r.Other)
+		}
+	}
+	if want := "3.9.1.0 4.9.1.0 6.9.1.0 5.9.1.0 4.8.0.0 6.8.0.0 5.8.0.0 4.0.0.0 "; got != want {
+		t.Errorf("got  %s\nwant %s", got, want)
+	}
+}
+
 func orderOf(records []wire.Record) []wire.Record {
 	return inOrder(reading{records: records}, func(n int) []wire.Record { return make([]wire.Record, n) })
 }

@@ -88,6 +88,9 @@ func (s *Segments) options(o Options) Options {
 	return o
 }
 
+// HasAllVariables reports whether the trace isn't one of several that share out the variables.
+func (s *Segments) HasAllVariables() bool { return s.groups == nil }
+
 // Write writes the trace of the segment.
 func (s *Segments) Write(table sites.Table, o Options, out io.Writer) (sum *Summary, err error) {
 	sum, s.end, err = write(s.stretch, table, s.options(o), out)

@@ -37,6 +37,7 @@ type Summary struct {
 type Options struct {
 	Version int  // of its text
 	All     bool // what one goroutine alone does isn't left out
+	Predict bool // races of other orders are to be looked for, so the trace says what each goroutine goes by
 
 	Goroutines int // names of goroutines at most; 0: as many as a trace may have
 	Variables  int // how many were met, if it is known; else as many as have a record

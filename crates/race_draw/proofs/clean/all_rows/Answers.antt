@@ -1,5 +1,5 @@
 use Rattle.std.proofs.Common.{[], ◌∷◌, ◌++◌, sym, ap, ◌∙◌}
-use Rattle.race_draw.proofs.CleanLemmas.{range_more}
+use Rattle.race_draw.proofs.PictureLemmas.{range_more}
 use Rattle.race_draw.proofs.clean.all_rows.Goals as goal
 
 pub loop-event-preserved : goal.loop-event-preserved

@@ -6,5 +6,5 @@ way-requires g c = listed_are_edges c.args.trace.now c.args.edges.now c.requires
 
 pub returns-clause-drawable : goal.returns-clause-drawable
 returns-clause-drawable g c =
-    parts_can_be_drawn c.args.trace.now c.len.ensures.is_trace c.args.race.now c.requires.race
-    c.in_ok-seen.seen _ _ c.in_ok-rows.rows.items _ c.len.ensures.len c.in_ok-seen.ensures c.in_ok-rows.ensures
+    parts_can_be_drawn c.args.trace.now c.len-events.ensures.is_trace c.args.race.now c.requires.race
+    c.in_ok-seen.seen _ _ _ _ c.missing-missing.ensures c.in_ok-seen.ensures c.in_ok-picture.ensures

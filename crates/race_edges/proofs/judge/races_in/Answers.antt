@@ -1,6 +1,6 @@
 -- Behind each event the tables are right for the front up to it; at the end they are for all events.
-use Rattle.std.proofs.lemmas.{Grind.common_steps, List.length-take-le, Result.{IfOk-weaker, IfOk-from_err}}
-use Rattle.std.proofs.Common.{◌≡◌, ◌∙◌, List, length, take, subst, arith, rules}
+use Rattle.std.proofs.lemmas.{List.length-take-le, Result.IfOk-weaker}
+use Rattle.std.proofs.Common.{◌≡◌, ◌∙◌, List, length, take, subst, arith}
 use Rattle.race_records.specs.declared.event.Event.{Event}
 use Rattle.race_edges.specs.Partners.{found_after}
 use Rattle.race_edges.proofs.JudgeSteps.{has_tables, tables_next, races_listed}
@@ -32,30 +32,3 @@ returns g c =
     IfOk-weaker c.list.result _ _ (λ races is.
     rw is (races_listed c.args.trace.now c.loop-at.at c.loop-at.table c.loop-at.found c.len.ensures.is_trace c.loop-at.invariant (omega arith)))
     c.list.ensures
-
-pub returns-in_err-numbers : goal.returns-in_err-numbers
-returns-in_err-numbers g c = IfOk-from_err _ _ c.from_residual.ensures.0
-
-pub returns-in_err-table : goal.returns-in_err-table
-returns-in_err-table g c = IfOk-from_err _ _ c.from_residual-in_err-table.ensures.0
-
-pub returns-in_err-found : goal.returns-in_err-found
-returns-in_err-found g c = IfOk-from_err _ _ c.from_residual-in_err-found.ensures.0
-
-pub returns-in_err-step : goal.returns-in_err-step
-returns-in_err-step g c = IfOk-from_err _ _ c.from_residual-in_err-step.ensures.0
-
-pub slice_bounds-look-end : goal.slice_bounds-look-end
-slice_bounds-look-end g c = search rules steps 1000000
-
-pub event-requires : goal.event-requires
-event-requires g c = grind (arith, common_steps) steps 300000
-
-pub look-requires-clause-few : goal.look-requires-clause-few
-look-requires-clause-few g c = grind (arith, common_steps) steps 300000
-
-pub step-requires-clause-within : goal.step-requires-clause-within
-step-requires-clause-within g c = grind (arith, common_steps) steps 300000
-
-pub step-requires-clause-numbers : goal.step-requires-clause-numbers
-step-requires-clause-numbers g c = search rules steps 1000000

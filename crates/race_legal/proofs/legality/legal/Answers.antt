@@ -11,13 +11,10 @@ accept-requires-clause-range g c =
     c.event.result.now c.loop-at.invariant.stands c.event.ensures.fits
 
 pub returns-in-Rule : goal.returns-in-Rule
-returns-in-Rule g c = (
-  c.event.result.now,
-  c.event.ensures.event,
-  c.in-Err.ensures.least c.in-Rule.rule (ap Err c.in-Rule.is) c.args.trace.now.decls.declarations
-      (take c.loop-at.at c.args.trace.now.events) c.loop-at.invariant.stands,
-  c.loop-at.invariant.stands.legal,
-)
+returns-in-Rule g c =
+    let past = take c.loop-at.at c.args.trace.now.events in
+    let least = c.in-Err.ensures.least c.in-Rule.rule (ap Err c.in-Rule.is) c.args.trace.now.decls.declarations past c.loop-at.invariant.stands in
+    (c.event.result.now, c.event.ensures.event, least, c.loop-at.invariant.stands.legal)
 
 pub loop-at-preserved : goal.loop-at-preserved
 loop-at-preserved g c = record {

@@ -1,16 +1,8 @@
 -- A row that holds by some branch holds by one of those that are tried.
-use Rattle.std.proofs.Common.{◌≡◌, ◌∙◌, ℕ, true, true≢false, Option, Some, None, is_some, inl, inr, refl, sym, ap}
+use Rattle.std.proofs.Common.{◌≡◌, ◌∙◌, true≢false, is_some, inl, inr, refl, sym, ap}
 use Rattle.std.proofs.{Common.{subst, arith}, lemmas.Bool.cases_lt}
-use Rattle.race_records.specs.declared.event.Op.{Op}
-use Rattle.race_requests.specs.{declared.request.{Answer.Answer, Ask.Ask}, Table.{IsRow, done_by, told_at}}
-use Rattle.race_requests.proofs.RowLemmas.{branch_within}
+use Rattle.race_requests.{specs.Table.{IsRow, done_by}, proofs.{RowLemmas.branch_within, SomeRow.some_row}}
 use Rattle.race_requests.proofs.table.can_make.Goals as goal
-
--- where there is an answer there is a row
-some_row : (ask : Ask) (k : ℕ) (op : Op) (row : Option (Option Answer)) → row ≡ told_at ask k op → is_some row ≡ true
-    → (k : ℕ) × (told : Option Answer) × IsRow ask k op told
-some_row ask k op None row is = absurd cc
-some_row ask k op (Some told) row is = (k, told, sym row)
 
 pub loop-branch-preserved : goal.loop-branch-preserved
 loop-branch-preserved c k told less row = elim (cases_lt k c.loop-branch.branch) [

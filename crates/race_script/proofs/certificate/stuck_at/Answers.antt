@@ -1,4 +1,4 @@
-use Rattle.std.proofs.{lemmas.Grind.common_steps, Common.{◌≡◌, List, length, slice_get, Some, None, sym, ap, subst}}
+use Rattle.std.proofs.{lemmas.Grind.common_steps, Common.{List, slice_get, Some, None, sym, ap, subst}}
 use Rattle.std.proofs.Common.{◌∙◌, arith, true≢false}
 use Rattle.race_records.specs.declared.event.Event.{Event}
 use Rattle.race_hub.specs.Part.{part_of}

@@ -1,9 +1,8 @@
 -- The replay stands for the front up to the index; at the end for all of the block.
-use Rattle.std.proofs.Common.{◌≡◌, ◌∙◌, [], ◌∷◌, Some, None, take, length, slice_get, refl, sym, subst, take_all, arith}
-use Rattle.std.proofs.lemmas.Option.{slice_get_read}
+use Rattle.std.proofs.Common.{◌≡◌, ◌∙◌, [], ◌∷◌, None, take, refl, sym, subst, take_all, arith}
 use Rattle.race_records.specs.declared.event.Event.{Event}
 use Rattle.race_legal.specs.ReplayState.{IsInRange, counts_in}
-use Rattle.race_shards.{specs.Judging.Accepts, proofs.JudgeSteps.{accepts_none, accepts_more, breaks}}
+use Rattle.race_shards.{specs.Judging.Accepts, proofs.{ShardSteps.item_at, JudgeSteps.{accepts_none, accepts_is, accepts_more, breaks}}}
 use Rattle.race_shards.proofs.block.accept_all.Goals as goal
 
 pub loop-event-init : goal.loop-event-init
@@ -18,30 +17,28 @@ accept_next-requires-clause-range g c =
 pub returns-in_err-illegal-clause-counts : goal.returns-in_err-illegal-clause-counts
 returns-in_err-illegal-clause-counts g c = c.accept_next.ensures.counts ∙ c.loop-event.invariant.counts
 
-pub returns-in-Some-clause-accepts : goal.returns-in-Some-clause-accepts
-returns-in-Some-clause-accepts g c =
+pub returns-in-Some : goal.returns-in-Some
+returns-in-Some g c =
     let e : Event = c.event-item.result in
     let block = c.args.block.now in
-    let here : slice_get block c.loop-event.event-index ≡ Some e =
-    slice_get_read block (length block) c.loop-event.event-index e refl c.loop-event-test.true c.event-item.is in
-    breaks c.args.replay.now c.loop-event.replay c.accept_next.new.replay block c.loop-event.event-index e here c.loop-event.invariant.accepts
-    c.in-Some.illegal
-    (subst (λ illegal. Accepts c.loop-event.replay (e ∷ []) illegal c.accept_next.new.replay) c.in-Some.is c.in_ok-illegal.ensures.accepts)
-
-pub returns-in-Some-clause-counts : goal.returns-in-Some-clause-counts
-returns-in-Some-clause-counts g c = c.accept_next.ensures.counts ∙ c.loop-event.invariant.counts
+    let here = item_at block c.loop-event.event-index e c.loop-event-test.true c.event-item.is in
+    record {
+      accepts = breaks c.args.replay.now c.loop-event.replay c.accept_next.new.replay block c.loop-event.event-index e here
+          c.loop-event.invariant.accepts c.in-Some.illegal
+          (accepts_is c.loop-event.replay c.accept_next.new.replay (e ∷ []) c.in-Some.is c.in_ok-illegal.ensures.accepts);
+      counts = c.accept_next.ensures.counts ∙ c.loop-event.invariant.counts;
+    }
 
 pub loop-event-preserved : goal.loop-event-preserved
 loop-event-preserved g c =
     let e : Event = c.event-item.result in
     let block = c.args.block.now in
-    let here : slice_get block c.loop-event.event-index ≡ Some e =
-    slice_get_read block (length block) c.loop-event.event-index e refl c.loop-event-test.true c.event-item.is in
+    let here = item_at block c.loop-event.event-index e c.loop-event-test.true c.event-item.is in
     record {
       accepts =
           accepts_more c.args.replay.now c.loop-event.replay c.accept_next.new.replay block c.loop-event.event-index e here
           c.loop-event.invariant.accepts
-          (subst (λ illegal. Accepts c.loop-event.replay (e ∷ []) illegal c.accept_next.new.replay) c.in_default.is c.in_ok-illegal.ensures.accepts);
+          (accepts_is c.loop-event.replay c.accept_next.new.replay (e ∷ []) c.in_default.is c.in_ok-illegal.ensures.accepts);
       counts = c.accept_next.ensures.counts ∙ c.loop-event.invariant.counts;
       len = omega (arith, c.accept_next.ensures.len, c.loop-event.invariant.len);
     }

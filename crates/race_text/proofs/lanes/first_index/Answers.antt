@@ -1,14 +1,11 @@
-use Rattle.std.proofs.Common.{ℕ, ◌+◌, ◌==◌, Some, position, sym, ap, ◌∙◌, arith}
-use lib.Count.{count_trailing_zeros}
-use Rattle.race_text.proofs.{CutLemmas.rest_is, LaneLemmas.{first_in_lanes, none_in_lanes, first_behind, none_behind}}
+use Rattle.std.proofs.Common.{ℕ, ◌==◌, position, sym, ap, ◌∙◌, arith}
+use Rattle.race_text.proofs.{CutLemmas.rest_is, LaneLemmas.{found_in_lanes, none_in_lanes, first_behind, none_behind}}
 use Rattle.race_text.proofs.lanes.first_index.Goals as goal
 
 pub returns-then-found-ne0 : goal.returns-then-found-ne0
 returns-then-found-ne0 c =
-    let at = c.loop-at.at in
-    let found = c.equal_in-found.ensures in
-    sym (first_in_lanes (λ b. b == c.args.byte) c.args.bytes.now 0 at 64 (omega arith) (omega arith) c.loop-at.invariant.1 (omega (arith, found))
-    ∙ ap (λ mask. Some (at + count_trailing_zeros 64 mask)) (sym found))
+    found_in_lanes (λ b. b == c.args.byte) c.args.bytes.now 0 c.loop-at.at 64 c.equal_in-found.result c.equal_in-found.ensures
+    (omega arith) (omega arith) c.loop-at.invariant.1 (omega arith)
 
 pub loop-at-preserved : goal.loop-at-preserved
 loop-at-preserved c = (

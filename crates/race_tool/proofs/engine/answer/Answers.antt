@@ -10,8 +10,7 @@ find-requires g c =
     record { shown = _; shows = refl; left = _; met = c.read.ensures; leaves = refl } in
     let is = ok_of c.read.result c.in-Ok-Ok.field-0 (Ok c.in-Ok-Ok.whole) c.in-Ok-Ok.is c.in-Ok-Ok.field-0-is in
     let so = was_read_so _ _ _ _ _ c.read.result reads (Ok c.in-Ok-Ok.whole) is in
-    let can = c.requires.can_find c.in-Ok-Ok.whole _ so in
-    search (rules, can)
+    search (rules, c.requires.can_find c.in-Ok-Ok.whole _ so)
 
 pub send-requires : goal.send-requires
 send-requires g c =

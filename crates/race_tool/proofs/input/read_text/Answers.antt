@@ -20,10 +20,7 @@ loop-init g c = record {
 pub returns-in_err-feed_block : goal.returns-in_err-feed_block
 returns-in_err-feed_block g c =
     let told = c.in_err-feed_block in
-    let held = c.loop.invariant in
-    let Feeds = Stands g.G.Grammar.causes (g.G.Grammar.stands_for g.G.Grammar.at_start) in
-    reads_failed (g.G.Grammar.is_text_of g.G.Grammar.at_start) g.G.Grammar.causes g.R.Read.remaining c.args.source.now c.loop.source c.feed_block.new.source
-    (Feeds c.loop.reader) (Feeds c.feed_block.new.reader) c.loop.counter held.fed held.calm told.field-0.0
+    reads_failed c.loop.source c.loop.invariant.fed c.loop.invariant.calm told.field-0.0
     c.from_residual.result c.from_residual.ensures.1 told.ensures.calm told.ensures.failed told.ensures.kept told.ensures.ends
 
 pub finish-requires : goal.finish-requires
@@ -31,40 +28,28 @@ finish-requires g c = (g.G.Grammar.at_start, c.in_ok-feed_block.ensures.ready g.
 
 pub returns-in-Ok-false : goal.returns-in-Ok-false
 returns-in-Ok-false g c =
-    let feeds = c.in_ok-feed_block in
-    let held = c.loop.invariant in
+    let feeds = c.in_ok-feed_block.ensures in
     let apart = c.set_memory_apart.ensures in
-    let Feeds = Stands g.G.Grammar.causes (g.G.Grammar.stands_for g.G.Grammar.at_start) in
-    reads_ended (g.G.Grammar.is_text_of g.G.Grammar.at_start) g.G.Grammar.causes g.R.Read.remaining c.args.source.now c.loop.source c.feed_block.new.source
-    (Feeds c.loop.reader) (Feeds c.feed_block.new.reader) c.loop.counter held.fed held.calm
-    feeds.field-0 (feeds.ensures.ok g.G.Grammar.at_start) (feeds.ensures.calm (λ e. cc)) (c.in-Ok-false.is ∙ ap (λ (b : Bool). Ok b) c.in-Ok-false.field-0-test)
-    c.finish.result c.set_memory_apart.result
+    reads_ended c.loop.source c.loop.invariant.fed c.loop.invariant.calm (feeds.ok g.G.Grammar.at_start) (feeds.calm (λ e. cc))
+    (c.in-Ok-false.is ∙ ap (λ (b : Bool). Ok b) c.in-Ok-false.field-0-test) c.finish.result c.set_memory_apart.result
     (IfOk-weaker c.finish.result _ _ (λ whole each. each g.G.Grammar.at_start) c.finish.ensures.text)
     (IfErr-weaker c.finish.result _ _ (λ told each. each g.G.Grammar.at_start) c.finish.ensures.fault) apart.same apart.others apart.memory
 
 pub returns-in-Err : goal.returns-in-Err
 returns-in-Err g c =
-    let feeds = c.in_ok-feed_block in
-    let held = c.loop.invariant in
-    let Feeds = Stands g.G.Grammar.causes (g.G.Grammar.stands_for g.G.Grammar.at_start) in
-    reads_faulty (g.G.Grammar.is_text_of g.G.Grammar.at_start) g.G.Grammar.causes g.R.Read.remaining c.args.source.now c.loop.source c.feed_block.new.source
-    (Feeds c.loop.reader) (Feeds c.feed_block.new.reader) c.loop.counter held.fed held.calm
-    feeds.field-0 (feeds.ensures.ok g.G.Grammar.at_start) (feeds.ensures.calm (λ e. cc)) c.in-Err.fault c.in-Err.is
+    let feeds = c.in_ok-feed_block.ensures in
+    reads_faulty c.loop.source c.loop.invariant.fed c.loop.invariant.calm (feeds.ok g.G.Grammar.at_start) (feeds.calm (λ e. cc)) c.in-Err.fault c.in-Err.is
 
 pub loop-preserved : goal.loop-preserved
 loop-preserved g c =
-    let feeds = c.in_ok-feed_block in
+    let feeds = c.in_ok-feed_block.ensures in
     let held = c.loop.invariant in
-    let Feeds = Stands g.G.Grammar.causes (g.G.Grammar.stands_for g.G.Grammar.at_start) in
-    let more = c.in-Ok-true.is ∙ ap (λ (b : Bool). Ok b) c.in-Ok-true.field-0-test in
     record {
-      fed = reads_on g.G.Grammar.causes (unread g.R.Read.remaining c.args.source.now) (unread g.R.Read.remaining c.loop.source)
-          (unread g.R.Read.remaining c.feed_block.new.source) (Feeds c.loop.reader) (Feeds c.feed_block.new.reader) c.loop.counter held.fed
-          feeds.field-0 (feeds.ensures.ok g.G.Grammar.at_start) more;
+      fed = reads_on held.fed (feeds.ok g.G.Grammar.at_start) (c.in-Ok-true.is ∙ ap (λ (b : Bool). Ok b) c.in-Ok-true.field-0-test);
       first = λ none. absurd (omega arith);
       reads = λ some. read_more c.loop.counter (source_reads c.args.source.now)
-          (source_reads c.loop.source) (source_reads c.feed_block.new.source) held.first held.reads feeds.ensures.reads;
-      calm = feeds.ensures.calm (λ e. cc) ∙ held.calm;
+          (source_reads c.loop.source) (source_reads c.feed_block.new.source) held.first held.reads feeds.reads;
+      calm = feeds.calm (λ e. cc) ∙ held.calm;
       room = held.room;
-      ready = feeds.ensures.ready g.G.Grammar.at_start held.ready;
+      ready = feeds.ready g.G.Grammar.at_start held.ready;
     }

@@ -1,13 +1,8 @@
-use Rattle.std.proofs.{Common.{◌≡◌, Some, None, [], ◌∷◌, ◌++◌, sym, ap, ◌∙◌, subst}, lemmas.Result.on_ok_weaker}
-use Rattle.race_verdict.specs.declared.report.ReportedAccess.{ReportedAccess}
-use Rattle.race_access.specs.{declared.access.Access.Access, Kept.{no_access, note_of, IsGreatestUnknown, candidates}}
-use Rattle.race_access.specs.{Kept.IsKeptOn, KeptOf.kept_of, Touches.Touch, TouchHolds.StandsFor}
-use Rattle.race_access.proofs.StandSteps.{stands_raced, stands_first, stands_on}
+use Rattle.std.proofs.{Common.{Some, None, [], ◌∷◌, ◌++◌, sym, ap, ◌∙◌, subst}, lemmas.Result.on_ok_weaker}
+use Rattle.race_access.specs.{declared.access.Access.Access, Kept.{note_of, IsGreatestUnknown, candidates}}
+use Rattle.race_access.specs.{Kept.IsKeptOn, KeptOf.kept_of, Touches.Touch}
+use Rattle.race_access.proofs.StandSteps.{stands_raced, stands_first, stands_noted, stands_on}
 use Rattle.race_access.proofs.variable.VarState.touch.Goals as goal
-
--- pairs of what is the same
-pair_same : {a b x y : ReportedAccess} → a ≡ x → b ≡ y → ◌≡◌ {A = ReportedAccess × ReportedAccess} (a, b) (x, y)
-pair_same {a} {b} {x} {y} one two = ap (λ n. (n, b)) one ∙ ap (λ n. (x, n)) two
 
 pub returns-then-is_raced-clause-goes_on : goal.returns-then-is_raced-clause-goes_on
 returns-then-is_raced-clause-goes_on g c =
@@ -20,8 +15,7 @@ returns-in-Some-clause-goes_on g c =
     let first = note_of c.in-Some.first.now in
     let greatest = subst (λ (e : Access). IsGreatestUnknown c.args.clock.now (candidates e old) (Some first)) c.of-access.ensures c.in-Some.ensures in
     λ touched stands lawful.
-    subst (λ (both : ReportedAccess × ReportedAccess). StandsFor (record { pair = Some (both.0.at, both.1.at); noted = Some both; write = no_access; reads = [] }) (touched ++ t ∷ []))
-    (sym (pair_same c.note.ensures (c.note-in-Some.ensures ∙ ap note_of c.of-access.ensures)))
+    stands_noted (touched ++ t ∷ []) c.note.ensures (c.note-in-Some.ensures ∙ ap note_of c.of-access.ensures)
     (stands_first touched t lawful old (sym c.is_raced.ensures ∙ c.if-is_raced.false) first greatest (rw c.self.view_is stands))
 
 pub returns-in-None-clause-goes_on : goal.returns-in-None-clause-goes_on

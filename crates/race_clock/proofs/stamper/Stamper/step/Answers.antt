@@ -4,18 +4,14 @@ use Rattle.race_clock.specs.{ClocksState.after, StamperState.StamperState, Needs
 use Rattle.race_clock.proofs.{NextLemmas.{is_apart, has_clocks, counts_fit}, StamperSteps.{next_stands, next_counts}}
 use Rattle.race_clock.proofs.stamper.Stamper.step.Goals as goal
 
-pub take-requires-clause-range : goal.take-requires-clause-range
-take-requires-clause-range g c =
-    subst (λ (k : StamperState). HasClocks k.clocks c.args.event.now.who c.args.event.now.op) (sym c.self.view_is)
-    (has_clocks c.requires.declarations c.args.self.now c.requires.past c.requires.stands c.args.event.now c.requires.in_range)
-
-pub take-requires-clause-apart : goal.take-requires-clause-apart
-take-requires-clause-apart g c = is_apart c.requires.declarations c.requires.past c.args.event.now c.requires.allowed
-
-pub take-requires-clause-counts : goal.take-requires-clause-counts
-take-requires-clause-counts g c =
-    subst (λ (k : StamperState). CountsFit k.clocks c.args.event.now.who c.args.event.now.op) (sym c.self.view_is)
-    (counts_fit c.requires.declarations c.args.self.now c.requires.past c.requires.stands c.args.event.now c.requires.in_range c.requires.room)
+pub take-requires : goal.take-requires
+take-requires g c = record {
+  range = subst (λ (k : StamperState). HasClocks k.clocks c.args.event.now.who c.args.event.now.op) (sym c.self.view_is)
+      (has_clocks c.requires.declarations c.args.self.now c.requires.past c.requires.stands c.args.event.now c.requires.in_range);
+  apart = is_apart c.requires.declarations c.requires.past c.args.event.now c.requires.allowed;
+  counts = subst (λ (k : StamperState). CountsFit k.clocks c.args.event.now.who c.args.event.now.op) (sym c.self.view_is)
+      (counts_fit c.requires.declarations c.args.self.now c.requires.past c.requires.stands c.args.event.now c.requires.in_range c.requires.room);
+}
 
 pub returns-clause-goes_on : goal.returns-clause-goes_on
 returns-clause-goes_on g c declarations past S allowed =

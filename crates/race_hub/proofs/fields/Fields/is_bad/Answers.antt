@@ -8,18 +8,15 @@ use Rattle.race_hub.proofs.fields.Fields.is_bad.Goals.{After-as_slice}
 
 -- the request was found sound
 sound : (g : given.Over) (c : goal.After-as_slice g) → is_sound c.args.self.now.trace.decls c.args.waiter.now ≡ true
-sound g c =
-    subst (λ d. is_sound d c.args.waiter.now ≡ true) c.decls.ensures.decls (sym c.is_sound.ensures ∙ c.if-not-is_sound.false)
+sound g c = subst (λ d. is_sound d c.args.waiter.now ≡ true) c.decls.ensures.decls (sym c.is_sound.ensures ∙ c.if-not-is_sound.false)
 
 pub is_out_of_turn-requires-clause-who : goal.is_out_of_turn-requires-clause-who
 is_out_of_turn-requires-clause-who g c =
-    let f = c.args.self.now in
-    who_is_in_range f.trace.decls.declarations f.replay f.trace.events c.requires c.args.waiter.now (both_true _ _ (sound g c)).0
+    who_is_in_range c.args.self.now.trace.decls.declarations c.args.self.now.replay c.args.self.now.trace.events c.requires c.args.waiter.now (both_true _ _ (sound g c)).0
 
 pub is_out_of_turn-requires-clause-range : goal.is_out_of_turn-requires-clause-range
 is_out_of_turn-requires-clause-range g c =
-    let f = c.args.self.now in
-    ask_is f.trace.decls.declarations f.replay f.trace.events c.requires c.args.waiter.now (both_true _ _ (sound g c)).0
+    ask_is c.args.self.now.trace.decls.declarations c.args.self.now.replay c.args.self.now.trace.events c.requires c.args.waiter.now (both_true _ _ (sound g c)).0
 
 pub returns : goal.returns
 returns g c =

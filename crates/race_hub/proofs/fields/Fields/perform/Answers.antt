@@ -55,5 +55,6 @@ returns-clause-ok g c =
       same = (c.append.ensures.decls, refl, c.make_room.ensures.out, refl);
     }) rows.partner rows.apart c.requires.holds.0 c.requires.on
     (c.in_ok-append.ensures.goes_on old.decls.declarations old.events c.requires.holds.0.stands)
-    (omega (arith, c.begin.ensures.len, c.tell-2.ensures.len, c.tell.ensures.len, c.in_ok-make_room.ensures.turns)) (rw c.take_out-waiter.ensures.list (rest_room outs c.args.self.now.logs.have_room c.tell.new.logs.have_room
-    c.tell-2.new.logs.have_room c.requires.holds.2 c.tell.ensures.others c.tell-2.ensures.others))
+    (omega (arith, c.begin.ensures.len, c.tell-2.ensures.len, c.tell.ensures.len, c.in_ok-make_room.ensures.turns))
+    (rw c.take_out-waiter.ensures.list (rest_room outs c.args.self.now.logs.have_room c.tell.new.logs.have_room c.tell-2.new.logs.have_room
+    c.requires.holds.2 c.tell.ensures.others c.tell-2.ensures.others))

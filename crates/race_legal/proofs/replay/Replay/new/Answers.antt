@@ -2,18 +2,6 @@ use Rattle.std.proofs.{Common.{◌≤◌, subst, sym, arith}, lemmas.Result.IfOk
 use Rattle.race_legal.{specs.ReplayState.{LocksState, readers_in}, proofs.FirstState.{none_reads, stands_first}}
 use Rattle.race_legal.proofs.replay.Replay.new.Goals as goal
 
-pub overflow_cast-count : goal.overflow_cast-count
-overflow_cast-count g c = omega arith
-
-pub overflow_cast-count-2 : goal.overflow_cast-count-2
-overflow_cast-count-2 g c = omega arith
-
-pub overflow_cast-count-3 : goal.overflow_cast-count-3
-overflow_cast-count-3 g c = omega arith
-
-pub overflow_cast-count-4 : goal.overflow_cast-count-4
-overflow_cast-count-4 g c = omega arith
-
 pub returns-in_err-new : goal.returns-in_err-new
 returns-in_err-new g c = record { stands = IfOk-from_err _ _ c.from_residual.ensures.0 }
 

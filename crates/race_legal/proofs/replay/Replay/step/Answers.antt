@@ -1,5 +1,5 @@
 -- Each arm on its own: all of them are too many for one search.
-use Rattle.std.proofs.{lemmas.Grind.common_steps, Common.{rules, arith}, Math.Bool.{and-true, and-false, or-false}}
+use Rattle.std.proofs.{Common.rules, Math.Bool.{and-true, and-false, or-false}}
 use Rattle.std.proofs.Math.Bool.{or-true}
 use Rattle.race_legal.proofs.replay.Replay.step.Goals.{in-Go, in-Exit, in-Read, in-Write, in-Send+in_ok-send-in-Send}
 use Rattle.race_legal.proofs.replay.Replay.step.Goals.{in-Recv, in-Meet, in-RecvClosed, in-Close, in-Default, in-Lock}
@@ -35,24 +35,3 @@ returns g c = elim c.match-event.branch [
   | in-OnceDone w ↦ rw (w.self-inside-is, ← c.self.view_is, w.in-OnceDone.is) (simp (and-false, or-false))
   | in-Fault w ↦ rw (w.self-inside-is, ← c.self.view_is, w.in-Fault.is) (simp (and-false, or-true))
 ]
-
-pub index_mut-requires : goal.index_mut-requires
-index_mut-requires c = grind (arith, common_steps) steps 300000
-
-pub lock_for_reading-requires-clause-row : goal.lock_for_reading-requires-clause-row
-lock_for_reading-requires-clause-row c = grind (arith, common_steps) steps 300000
-
-pub lock_for_reading-requires-clause-room : goal.lock_for_reading-requires-clause-room
-lock_for_reading-requires-clause-room c = grind (arith, common_steps) steps 300000
-
-pub lock_for_reading-requires-in-TryRLock-clause-row : goal.lock_for_reading-requires-in-TryRLock-clause-row
-lock_for_reading-requires-in-TryRLock-clause-row c = grind (arith, common_steps) steps 300000
-
-pub lock_for_reading-requires-in-TryRLock-clause-room : goal.lock_for_reading-requires-in-TryRLock-clause-room
-lock_for_reading-requires-in-TryRLock-clause-room c = grind (arith, common_steps) steps 300000
-
-pub unlock_from_reading-requires : goal.unlock_from_reading-requires
-unlock_from_reading-requires c = grind (arith, common_steps) steps 300000
-
-pub invariant_of-self-2 : goal.invariant_of-self-2
-invariant_of-self-2 c = grind (arith, common_steps) steps 2000000

@@ -1,4 +1,4 @@
-use Rattle.std.proofs.Common.{◌≡◌, ◌+◌, [], ◌∷◌, ◌++◌, take, get_or, slice_index_or, ap, sym, ◌∙◌, length, refl, arith}
+use Rattle.std.proofs.Common.{◌+◌, [], ◌∷◌, ◌++◌, take, get_or, slice_index_or, ap, sym, ◌∙◌, length, refl, arith}
 use Rattle.std.proofs.lemmas.Option.{slice_get-get_or}
 use Rattle.race_model.specs.Predict.{told}
 use Rattle.race_predict.specs.Attempts.{AttemptState}

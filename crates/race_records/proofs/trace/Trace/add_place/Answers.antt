@@ -1,17 +1,8 @@
-use Rattle.std.proofs.Common.{◌≡◌, ◌⊎◌, inl, inr, Option, Some, None, Result, Ok, Err, OnOk, OnErr, refl, sym, subst}
-use Rattle.race_records.specs.{Declarations.{DeclsState, IsWellFormed}, Events.IsTrace, Refusal.Refuses}
+use Rattle.std.proofs.Common.{inl, inr, sym, subst}
+use Rattle.race_records.specs.{Declarations.{DeclsState, IsWellFormed}, Events.IsTrace}
 use Rattle.race_records.{specs.TraceHolds.trace_state, proofs.EventLemmas.with_place_is_trace}
-use Rattle.race_records.proofs.PlaceLemmas.{with_place_well_formed}
+use Rattle.race_records.proofs.{PlaceLemmas.with_place_well_formed, AnswerLemmas.either}
 use Rattle.race_records.proofs.trace.Trace.add_place.Goals as goal
-
--- what is answered with a value has no fault
-allowed : {T E : Type 0} (fault : Option E) (x : T) → Refuses fault (Ok x) → fault ≡ None
-allowed None x refused = refl
-allowed {T} {E} (Some f) x refused = let wrong : ◌≡◌ {A = Result T E} (Ok x) (Err f) = refused f refl in absurd (cc)
-
-either : {T E : Type 0} (fault : Option E) (r : Result T E) (P Q : Type 0) → Refuses fault r → OnOk r P → OnErr r Q → ((fault ≡ None) × P) ⊎ Q
-either fault (Ok x) P Q refused p q = inl (allowed fault x refused, p)
-either fault (Err e) P Q refused p q = inr q
 
 pub invariant_of-self : goal.invariant_of-self
 invariant_of-self g c =

@@ -7,23 +7,20 @@ use Rattle.race_requests.proofs.board.WaitingList.goes_on_with.Goals as goal
 
 pub can_meet-requires-clause-same : goal.can_meet-requires-clause-same
 can_meet-requires-clause-same g c =
-    let r = c.run.result in same_channels r.1.now.declarations r.0.now c.args.self.now.past c.run.ensures.stands
+    same_channels c.run.result.1.now.declarations c.run.result.0.now c.args.self.now.past c.run.ensures.stands
 
 pub can_meet-requires-clause-who : goal.can_meet-requires-clause-who
 can_meet-requires-clause-who g c =
-    let r = c.run.result in
-    who_is_in_range r.1.now.declarations r.0.now c.args.self.now.past c.run.ensures.stands c.args.sender.now (rw c.run.ensures.declarations c.requires.sender)
+    who_is_in_range c.run.result.1.now.declarations c.run.result.0.now c.args.self.now.past c.run.ensures.stands c.args.sender.now (rw c.run.ensures.declarations c.requires.sender)
 
 pub can_meet-requires-clause-whom : goal.can_meet-requires-clause-whom
 can_meet-requires-clause-whom g c =
-    let r = c.run.result in
-    who_is_in_range r.1.now.declarations r.0.now c.args.self.now.past c.run.ensures.stands c.args.receiver.now
+    who_is_in_range c.run.result.1.now.declarations c.run.result.0.now c.args.self.now.past c.run.ensures.stands c.args.receiver.now
     (rw c.run.ensures.declarations c.requires.receiver)
 
 pub can_meet-requires-clause-range : goal.can_meet-requires-clause-range
 can_meet-requires-clause-range g c =
-    let r = c.run.result in
-    ask_is r.1.now.declarations r.0.now c.args.self.now.past c.run.ensures.stands c.args.sender.now (rw c.run.ensures.declarations c.requires.sender)
+    ask_is c.run.result.1.now.declarations c.run.result.0.now c.args.self.now.past c.run.ensures.stands c.args.sender.now (rw c.run.ensures.declarations c.requires.sender)
 
 pub returns : goal.returns
 returns g c =

@@ -1,6 +1,6 @@
 -- The lines that were read are few.
-use Rattle.std.proofs.Common.{◌∙◌, arith}
-use Rattle.race_script.proofs.{LineCount.{counted, total_viewed, few_viewed}, TakingLemmas.{some_viewed, none_viewed}}
+use Rattle.std.{proofs.Common.{◌∙◌, ap, arith}, specs.Option.option_map}
+use Rattle.race_script.{specs.Reader.state_of, proofs.LineCount.{counted, total_viewed, few_viewed}}
 use Rattle.race_script.proofs.reader.Reader.line.Goals as goal
 
 pub overflow_add-before : goal.overflow_add-before
@@ -33,7 +33,7 @@ pub overflow_add-result-in-Some : goal.overflow_add-result-in-Some
 overflow_add-result-in-Some g c =
     let n = counted _ c.args.self.now c.self.view_is c.if-not-self.false c.requires in
     let total = c.count_lines.ensures ∙ total_viewed _ c.as_slice.result.now c.self.inside.ended.items c.as_slice.ensures.value in
-    let u = n.some _ (some_viewed _ c.self.inside.unended c.in-Some.unended c.in-Some.is) in
+    let u = n.some _ (ap (option_map state_of) c.in-Some.is) in
     let few = n.few in let declared = n.declared in let len = c.len.ensures.len in
     let short = u.1 in let made = c.len-in-Some.ensures in
     omega (arith, few, declared, len, total, short, made)
@@ -42,7 +42,7 @@ pub returns-in-None : goal.returns-in-None
 returns-in-None g c =
     let n = counted _ c.args.self.now c.self.view_is c.if-not-self.false c.requires in
     let total = c.count_lines.ensures ∙ total_viewed _ c.as_slice.result.now c.self.inside.ended.items c.as_slice.ensures.value in
-    let all = n.none (none_viewed _ c.self.inside.unended c.in-None.is) in
+    let all = n.none (ap (option_map state_of) c.in-None.is) in
     let len = c.len.ensures.len in
     omega (arith, len, total, all)
 
@@ -50,6 +50,6 @@ pub returns-in-Some : goal.returns-in-Some
 returns-in-Some g c =
     let n = counted _ c.args.self.now c.self.view_is c.if-not-self.false c.requires in
     let total = c.count_lines.ensures ∙ total_viewed _ c.as_slice.result.now c.self.inside.ended.items c.as_slice.ensures.value in
-    let u = n.some _ (some_viewed _ c.self.inside.unended c.in-Some.unended c.in-Some.is) in
+    let u = n.some _ (ap (option_map state_of) c.in-Some.is) in
     let all = u.0 in let len = c.len.ensures.len in let made = c.len-in-Some.ensures in
     omega (arith, len, total, all, made)

@@ -1,6 +1,6 @@
 use Rattle.std.proofs.Common.{◌≡◌, Some, None, true, is_some, sym, ap, subst, refl, ◌∙◌, if◌then◌else◌}
 use Rattle.race_text.specs.{declared.cause.TextCause.TextCause, Owed.owed, Words.parts_left}
-use Rattle.race_script.specs.{Fault.words_cause, Form.begin_fields, Reader.ReadState, Reading.begun_in, Text.Begins}
+use Rattle.race_script.specs.{Fault.words_cause, Form.begin_fields, Reader.{ReadState, TakesSaid}, Reading.begun_in, Text.Begins}
 use Rattle.race_script.proofs.{ReadLemmas.{begin_told, said_told, said_taken}, SaidLines.{begun_is_there, is_begun}}
 use Rattle.race_script.proofs.{LineLemmas.begins_line, TakingLemmas.begin_taken}
 use Rattle.race_script.proofs.reader.Reader.take_begin.Goals as goal
@@ -40,10 +40,12 @@ returns g c =
     record {
       taken = said_taken s c.requires.read c.args.line.now (Begins c.unwrap-goroutine.result) _
           (begins_line s.decls c.requires.read.sound.well_formed c.args.line.now words c.unwrap-goroutine.result c.requires.words begun)
-          (begin_taken s c.requires.read.sound c.unwrap-goroutine.result
+          (subst (TakesSaid s (Begins c.unwrap-goroutine.result)) (λ k. record {
+            has_header = sym (ap (λ (x : ReadState). x.has_header) c.self.view_is ∙ c.requires.header) k;
+            decls = (sym c.self.view_is k).decls;
+            ended = (sym c.self.view_is k).ended;
+            unended = Some (record { requests = sym e.requests k; onces = sym e.onces k });
+          }) (begin_taken s c.requires.read.sound c.unwrap-goroutine.result
           (is_begun s.decls c.requires.read.sound.well_formed words c.unwrap-goroutine.result begun).less
-          (sym c.may_begin.ensures ∙ c.if-not-may_begin.false) _
-          (ap (λ (x : ReadState). x.has_header) c.self.view_is ∙ c.requires.header)
-          (ap (λ (x : ReadState). x.decls) c.self.view_is) (ap (λ (x : ReadState). x.ended) c.self.view_is)
-          (λ k. Some (record { requests = e.requests k; onces = e.onces k })));
+          (sym c.may_begin.ensures ∙ c.if-not-may_begin.false)));
     }

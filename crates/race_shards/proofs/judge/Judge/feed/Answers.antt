@@ -1,60 +1,51 @@
 -- The judge hasn't failed, so it stands for a list; where its verdict is settled, or the block is empty, only the length grows.
-use Rattle.std.proofs.Common.{◌≡◌, Err, vec_len, None, List, [], length, sym, ap, ◌∙◌, subst, rules}
+use Rattle.std.proofs.Common.{◌≡◌, Err, List, vec_len, length, sym, ap, ◌∙◌, subst, rules}
 use Rattle.race_records.specs.declared.event.Event.{Event}
-use Rattle.race_shards.specs.{declared.fault.JudgeFault.JudgeFault, Judging.{JudgeState, CanTake, GoesOn}}
-use Rattle.race_shards.proofs.JudgeSteps.{seen, can_judge, counts_on, judges_on, sound_on, counted, judged, none_of}
+use Rattle.race_shards.specs.{declared.fault.JudgeFault.JudgeFault, Judging.{JudgeState, GoesOn}}
+use Rattle.race_shards.proofs.JudgeSteps.{seen, can_seen, can_judge, counts_on, judges_on, sound_on, counted, judged, none_of}
 use Rattle.race_shards.proofs.JudgeSteps.{settled, empty_of, same_fault, count_of_shards}
 use Rattle.race_shards.proofs.judge.Judge.feed.Goals.{then-is_some-via-then-is_some}
 use Rattle.race_shards.proofs.judge.Judge.feed.Goals.{then-is_some-via-else-is_some+then-is_empty}
+use Rattle.race_shards.proofs.judge.Judge.feed.Goals.{After-self-1, In-Ok}
 use Rattle.race_shards.proofs.judge.Judge.feed.Goals as goal
+
+-- what goes on as it is seen
+goes_seen : {s t : JudgeState} (block : List Event) {new : JudgeState} → s ≡ t → GoesOn s block new → GoesOn t block new
+goes_seen {s} {t} block {new} is goes = subst (λ (old : JudgeState). GoesOn old block new) is goes
 
 pub judge_block-requires-after_bounds : goal.judge_block-requires-after_bounds
 judge_block-requires-after_bounds g c κs within =
-    let j : JudgeState = seen c.self.inside in
-    let can : CanTake j c.args.block.now = subst (λ (j : JudgeState). CanTake j c.args.block.now) (sym c.self.view_is) c.requires in
-    can_judge j c.args.block.now c.self.invariant c.if-self.false (none_of j.illegal (sym c.if-is_some.ensures)) can
+    can_judge (seen c.self.inside) c.args.block.now c.self.invariant c.if-self.false (none_of c.self.inside.illegal (sym c.if-is_some.ensures))
+    (can_seen c.args.block.now c.self.view_is c.requires)
+
+module _ (g : _) (c : goal.After-self-1 g) where
+  counts : GoesOn (seen c.self.inside) c.args.block.now (counted (seen c.self.inside) c.args.block.now (can_seen c.args.block.now c.self.view_is c.requires))
+  counts = counts_on (seen c.self.inside) c.args.block.now (can_seen c.args.block.now c.self.view_is c.requires) (elim c.then-is_some.branch [
+    | then-is_some-via-then-is_some w ↦ settled c.self.inside.illegal c.args.block.now (sym c.is_some.ensures ∙ w.if-is_some.true)
+    | then-is_some-via-else-is_some+then-is_empty w ↦ λ none. empty_of c.args.block.now (sym w.is_empty.ensures ∙ w.if-is_empty.true)
+  ])
 
 pub invariant_of-self : goal.invariant_of-self
 invariant_of-self g c =
-    let block : List Event = c.args.block.now in
-    let j : JudgeState = seen c.self.inside in
-    let can : CanTake j block = subst (λ (j : JudgeState). CanTake j block) (sym c.self.view_is) c.requires in
-    let only : j.illegal ≡ None → block ≡ [] = elim c.then-is_some.branch [
-      | then-is_some-via-then-is_some w ↦ settled j.illegal block (sym c.is_some.ensures ∙ w.if-is_some.true)
-      | then-is_some-via-else-is_some+then-is_empty w ↦ λ none. empty_of block (sym w.is_empty.ensures ∙ w.if-is_empty.true)
-    ] in
-    sound_on j (counted j block can) block c.self.invariant c.if-self.false (counts_on j block can only)
+    sound_on (seen c.self.inside) _ c.args.block.now c.self.invariant c.if-self.false (counts g c)
 
 pub returns-then-is_some-clause-goes_on : goal.returns-then-is_some-clause-goes_on
 returns-then-is_some-clause-goes_on g c =
-    let block : List Event = c.args.block.now in
-    let j : JudgeState = seen c.self.inside in
-    let can : CanTake j block = subst (λ (j : JudgeState). CanTake j block) (sym c.self.view_is) c.requires in
-    let only : j.illegal ≡ None → block ≡ [] = elim c.then-is_some.branch [
-      | then-is_some-via-then-is_some w ↦ settled j.illegal block (sym c.is_some.ensures ∙ w.if-is_some.true)
-      | then-is_some-via-else-is_some+then-is_empty w ↦ λ none. empty_of block (sym w.is_empty.ensures ∙ w.if-is_empty.true)
-    ] in
-    subst (λ (old : JudgeState). GoesOn old block (counted j block can)) c.self.view_is (counts_on j block can only)
+    goes_seen c.args.block.now c.self.view_is (counts g c)
+
+module _ (g : _) (c : goal.In-Ok g) where
+  judges : GoesOn (seen c.self.inside) c.args.block.now (judged (seen c.self.inside) c.args.block.now (can_seen c.args.block.now c.self.view_is c.requires)
+      c.in-Ok.illegal c.judge_block.new.replay c.judge_block.new.shards.items)
+  judges = judges_on (seen c.self.inside) c.args.block.now (can_seen c.args.block.now c.self.view_is c.requires) c.in-Ok.illegal c.judge_block.new.replay
+      c.judge_block.new.shards.items (none_of c.self.inside.illegal (sym c.if-is_some.ensures)) c.in-Ok.ensures.judges c.in-Ok.ensures.counts
 
 pub invariant_of-self-in-Ok : goal.invariant_of-self-in-Ok
 invariant_of-self-in-Ok g c =
-    let block : List Event = c.args.block.now in
-    let j : JudgeState = seen c.self.inside in
-    let can : CanTake j block = subst (λ (j : JudgeState). CanTake j block) (sym c.self.view_is) c.requires in
-    let new = judged j block can c.in-Ok.illegal c.judge_block.new.replay c.judge_block.new.shards.items in
-    sound_on j new block c.self.invariant c.if-self.false
-    (judges_on j block can c.in-Ok.illegal c.judge_block.new.replay c.judge_block.new.shards.items (none_of j.illegal (sym c.if-is_some.ensures))
-    c.in-Ok.ensures.judges c.in-Ok.ensures.counts)
+    sound_on (seen c.self.inside) _ c.args.block.now c.self.invariant c.if-self.false (judges g (goal.at.invariant_of-self-in-Ok g c).In-Ok)
 
 pub returns-in-Ok-clause-goes_on : goal.returns-in-Ok-clause-goes_on
 returns-in-Ok-clause-goes_on g c =
-    let block : List Event = c.args.block.now in
-    let j : JudgeState = seen c.self.inside in
-    let can : CanTake j block = subst (λ (j : JudgeState). CanTake j block) (sym c.self.view_is) c.requires in
-    let new = judged j block can c.in-Ok.illegal c.judge_block.new.replay c.judge_block.new.shards.items in
-    subst (λ (old : JudgeState). GoesOn old block new) c.self.view_is
-    (judges_on j block can c.in-Ok.illegal c.judge_block.new.replay c.judge_block.new.shards.items (none_of j.illegal (sym c.if-is_some.ensures))
-    c.in-Ok.ensures.judges c.in-Ok.ensures.counts)
+    goes_seen c.args.block.now c.self.view_is (judges g (goal.at.returns-in-Ok-clause-goes_on g c).In-Ok)
 
 pub returns-in-Err-clause-one : goal.returns-in-Err-clause-one
 returns-in-Err-clause-one g c = λ single told.

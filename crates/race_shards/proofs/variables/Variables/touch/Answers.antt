@@ -18,8 +18,7 @@ returns-clause-goes_on g c =
     let items = c.self.inside.states.items in
     let inside : VariablesState = record { number = c.self.inside.number; count = c.self.inside.count; kept = items } in
     let t : Touch = record { stamp = stamp; place = c.args.place; clock = c.args.clock.now } in
-    let within : stamp.var / inside.count < length inside.kept =
-    subst (λ (v : VariablesState). stamp.var / v.count < length v.kept) (sym c.self.view_is) c.requires in
+    let within = subst (λ (v : VariablesState). stamp.var / v.count < length v.kept) (sym c.self.view_is) c.requires in
     let place : c.place_of.result < length items = subst (λ (n : ℕ). n < length items) (sym c.place_of.ensures) within in
     let value = c.index_mut.ensures.value ∙ get_or_default items c.place_of.result _ nothing_kept place ∙ ap (λ n. get_or items n nothing_kept) c.place_of.ensures in
     on_ok_weaker c.touch.result

@@ -12,28 +12,16 @@ module _ (g : _) (c : goal.After-finish g) where
       fed_of trace_causes Stands c.self.inside.fed (lines_read reader.has_header reader.decls reader.trace) (λ fine. ((c.self.invariant fine).0, refl)) fed
       (subst (λ (k : LinesState). StandsFor trace_causes k fed) (sym c.self.view_is) S)
 
-pub returns-clause-text : goal.returns-clause-text
-returns-clause-text g c = IfOk-weaker c.finish.result _ _ (λ trace each fed S. each tt fed (fed_to g c fed S)) c.finish.ensures.text
-
-pub returns-clause-only : goal.returns-clause-only
-returns-clause-only g c =
-    IfOk-weaker c.finish.result _ _
-    (λ trace each fed S u is.
-    let has = each tt fed (fed_to g c fed S) in
-    equal_texts u trace is.has_text has.has_text (sym is.printed ∙ has.printed)) c.finish.ensures.text
-
-pub returns-clause-accepted : goal.returns-clause-accepted
-returns-clause-accepted g c =
-    IfErr-weaker c.finish.result _ _ (λ told each fed S. text_is_accepted fed told (each tt fed (fed_to g c fed S))) c.finish.ensures.fault
-
-pub returns-clause-fault : goal.returns-clause-fault
-returns-clause-fault g c = IfErr-weaker c.finish.result _ _ (λ told each fed S. each tt fed (fed_to g c fed S)) c.finish.ensures.fault
-
-pub returns-clause-memory : goal.returns-clause-memory
-returns-clause-memory g c = IfErr-weaker c.finish.result _ _ (λ told each fed S. each tt fed (fed_to g c fed S)) c.finish.ensures.memory
-
-pub returns-clause-line : goal.returns-clause-line
-returns-clause-line g c = IfErr-weaker c.finish.result _ _ (λ told each fed S. each tt fed (fed_to g c fed S)) c.finish.ensures.line
-
-pub returns-clause-repeated : goal.returns-clause-repeated
-returns-clause-repeated g c = λ told is. c.finish.ensures.repeated told (ap (λ (k : LinesState). k.fault) c.self.view_is ∙ is)
+pub returns : goal.returns
+returns g c = record {
+  text = IfOk-weaker c.finish.result _ _ (λ trace each fed S. each tt fed (fed_to g c fed S)) c.finish.ensures.text;
+  only = IfOk-weaker c.finish.result _ _
+      (λ trace each fed S u is.
+      let has = each tt fed (fed_to g c fed S) in
+      equal_texts u trace is.has_text has.has_text (sym is.printed ∙ has.printed)) c.finish.ensures.text;
+  accepted = IfErr-weaker c.finish.result _ _ (λ told each fed S. text_is_accepted fed told (each tt fed (fed_to g c fed S))) c.finish.ensures.fault;
+  fault = IfErr-weaker c.finish.result _ _ (λ told each fed S. each tt fed (fed_to g c fed S)) c.finish.ensures.fault;
+  memory = IfErr-weaker c.finish.result _ _ (λ told each fed S. each tt fed (fed_to g c fed S)) c.finish.ensures.memory;
+  line = IfErr-weaker c.finish.result _ _ (λ told each fed S. each tt fed (fed_to g c fed S)) c.finish.ensures.line;
+  repeated = λ told is. c.finish.ensures.repeated told (ap (λ (k : LinesState). k.fault) c.self.view_is ∙ is);
+}

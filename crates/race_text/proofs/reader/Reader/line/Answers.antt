@@ -6,18 +6,15 @@ use Rattle.race_text.proofs.reader.Reader.line.Goals as goal
 
 pub overflow_add-result : goal.overflow_add-result
 overflow_add-result g c =
-    let few = few_declared c.decls.result.now c.len.ensures.well_formed in
-    omega (arith, few, c.len.ensures.len, c.len-in-Some.ensures.len, c.len-in-Some.ensures.is_trace.limited)
+    omega (arith, few_declared c.decls.result.now c.len.ensures.well_formed, c.len.ensures.len, c.len-in-Some.ensures.len, c.len-in-Some.ensures.is_trace.limited)
 
 pub overflow_add-result-in-Some : goal.overflow_add-result-in-Some
 overflow_add-result-in-Some g c =
-    let few = few_declared c.decls.result.now c.len.ensures.well_formed in
-    omega (arith, few, c.len.ensures.len, c.len-in-Some.ensures.len, c.len-in-Some.ensures.is_trace.limited)
+    omega (arith, few_declared c.decls.result.now c.len.ensures.well_formed, c.len.ensures.len, c.len-in-Some.ensures.len, c.len-in-Some.ensures.is_trace.limited)
 
 pub overflow_add-result-in-None : goal.overflow_add-result-in-None
 overflow_add-result-in-None g c =
-    let few = few_declared c.args.self.now.decls c.len-in-None.ensures.well_formed in
-    omega (arith, few, c.len-in-None.ensures.len)
+    omega (arith, few_declared c.args.self.now.decls c.len-in-None.ensures.well_formed, c.len-in-None.ensures.len)
 
 pub returns-in-Some : goal.returns-in-Some
 returns-in-Some g c =

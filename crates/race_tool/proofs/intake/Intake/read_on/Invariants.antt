@@ -1,15 +1,13 @@
 use Rattle.std.proofs.Common.{◌≡◌, ◌≤◌, ◌-◌, vec_len}
-use Rattle.race_records.specs.{declared.source.Source.Source, Devices.source_failures}
 use Rattle.race_text.specs.Stream.{Known, StandsFor}
-use Rattle.race_tool.specs.{declared.input.TheConstants.{BLOCK, MAX_TURNS}, Intake.{IsReadable, HasTaken}}
+use Rattle.race_tool.specs.{declared.input.TheConstants.{BLOCK, MAX_TURNS}, Intake.IsReadable}
+use Rattle.race_tool.proofs.IntakeLemmas.{IsOn}
 use Rattle.race_tool.proofs.intake.Intake.read_on.Given as goal
 
 -- what was taken since any time before is taken still, with the blocks that were read here, and no read failed
 abbrev pub invariant-loop-self : goal.invariant-loop-self
 invariant-loop-self g l = record {
-  goes : (k : Known) (start : Source _) → HasTaken g.R.Read.remaining (StandsFor k) start l.initial.source l.initial.self.reader l.initial.self.turns
-      → HasTaken g.R.Read.remaining (StandsFor k) start l.source l.self.reader l.self.turns;
-  calm : source_failures l.source ≡ source_failures l.initial.source;
+  on : (k : Known) → IsOn g.R.Read.remaining (StandsFor k) l.initial.source l.source l.initial.self l.self;
   readable : (k : Known) → IsReadable (StandsFor k) l.initial.self → IsReadable (StandsFor k) l.self;
   later : l.initial.self.turns ≤ l.self.turns;
   room : vec_len l.self.block ≡ BLOCK;

@@ -1,7 +1,7 @@
 -- The verdict says which race is reported on a variable, and where none is.
-use Rattle.std.proofs.Common.{List, Some, None, sym, subst}
+use Rattle.std.proofs.Common.{List, Some, None, subst}
 use Rattle.race_verdict.specs.{declared.{races.Race.Race, verdict.Verdict.Verdict}, Traces.HasVerdict, Verdicts.verdict_of}
-use Rattle.race_tool.specs.Witness.{IsPickedOf, IsWitnessOn}
+use Rattle.race_tool.specs.Witness.{IsPickedOf}
 use Rattle.race_tool.proofs.WitnessLemmas.{clean_right, races_right, none_clean, picked_races, picked_witness, none_picked}
 use Rattle.race_tool.proofs.witness.Showing.find.Goals as goal
 

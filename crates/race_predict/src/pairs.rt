@@ -1,0 +1,365 @@
+//! The pairs of accesses that may end another run, at most one for each variable. Nothing is proved of it but that it returns.
+
+use crate::accesses::Accesses;
+use crate::closure::Closure;
+use crate::scene::Scene;
+use crate::seconds::Seconds;
+use crate::shared::{Shared, access_at};
+use crate::turned::Turned;
+use crate::wants::{NONE, push_row, row, rows_of, set_row};
+use race_records::{Kind, Trace};
+use std::alloc::{AllocError, Allocator, Global};
+
+// The group has no first accesses left.
+const ENDED: u32 = NONE - 1;
+
+/// How many pairs of two groups are tried in another order.
+const TURNS: u32 = 24;
+
+/// The first accesses of one group for the second ones of another: which of them may still come, and the next such of the other group. In
+/// another order, the segment of the last second access and how many pairs were tried.
+#[derive(Clone, Copy)]
+struct Firsts {
+    first: u32,
+    next: u32,
+    segment: u32,
+    tries: u32,
+}
+
+const NO_FIRSTS: Firsts = Firsts {
+    first: NONE,
+    next: ENDED,
+    segment: NONE,
+    tries: 0,
+};
+
+/// What is found, and what it is found by.
+///
+/// The closure of what a goroutine's accesses want grows along them. From it each first access is tried, in their order: one that comes into
+/// the closure with a second access is in it with each later one.
+#[derive(Drop)]
+pub(crate) struct Pairs<A: Allocator = Global> {
+    pub(crate) shared: Shared<A>,
+    pub(crate) seconds: Seconds<A>,
+    pub(crate) accesses: Accesses<A>,
+    // Of each group of second accesses a list of firsts.
+    lists: Vec<u32, A>,
+    firsts: Vec<Firsts, A>,
+    /// Of each variable the pair.
+    pub(crate) first: Vec<u32, A>,
+    pub(crate) second: Vec<u32, A>,
+    /// Of each variable whether the run has another order, as 0 and 1.
+    pub(crate) is_turned: Vec<u32, A>,
+    /// Of each variable whether its search was cut off, as 0 and 1.
+    pub(crate) is_cut: Vec<u32, A>,
+    /// How many steps may be taken.
+    pub(crate) limit: u64,
+}
+
+impl<A: Allocator + Copy> Pairs<A> {
+    pub(crate) fn new(
+        alloc: A,
+        trace: &Trace<A>,
+        shared: Shared<A>,
+        seconds: Seconds<A>,
+        limit: u64,
+    ) -> Result<Pairs<A>, AllocError> {
+        let vars = trace.decls().count(Kind::Var) as usize;
+        let accesses = Accesses::new(alloc, trace, &seconds.is_candidate)?;
+        let groups = accesses.len();
+        Ok(Pairs {
+            shared,
+            seconds,
+            accesses,
+            lists: rows_of(alloc, groups, NONE)?,
+            firsts: Vec::new(alloc),
+            first: rows_of(alloc, vars, NONE)?,
+            second: rows_of(alloc, vars, NONE)?,
+            is_turned: rows_of(alloc, vars, 0)?,
+            is_cut: rows_of(alloc, vars, 0)?,
+            limit,
+        })
+    }
+
+    /// Searches all variables.
+    pub(crate) fn search(
+        &mut self,
+        scene: &Scene<A>,
+        closure: &mut Closure<A>,
+        turned: &mut Turned<A>,
+    ) -> Result<(), AllocError> {
+        for goroutine in 0..scene.trace.decls().count(Kind::Goroutine) {
+            self.search_seconds(scene, closure, turned, goroutine)?;
+        }
+        Ok(())
+    }
+
+    fn search_seconds(
+        &mut self,
+        scene: &Scene<A>,
+        closure: &mut Closure<A>,
+        turned: &mut Turned<A>,
+        goroutine: u32,
+    ) -> Result<(), AllocError> {
+        let mut second = row(&self.seconds.first, goroutine);
+        if second == NONE {
+            return Ok(());
+        }
+        self.firsts.clear();
+        closure.clear(scene.steps);
+        for _ in 0..scene.trace.len() {
+            if second == NONE {
+                break;
+            }
+            self.try_second(scene, closure, turned, second)?;
+            second = row(&self.seconds.next, second);
+        }
+        Ok(())
+    }
+
+    fn try_second(
+        &mut self,
+        scene: &Scene<A>,
+        closure: &mut Closure<A>,
+        turned: &mut Turned<A>,
+        second: u32,
+    ) -> Result<(), AllocError> {
+        let (var, writes) = access_at(scene.trace, second);
+        let own = scene.part(second);
+        let is_found = row(&self.second, var) <= second;
+        if is_found || !closure.keeps_order && row(&self.second, var) != NONE {
+            return Ok(());
+        }
+        let group = self.accesses.find(var, own.who, writes);
+        self.list_firsts(group, var, own.who, writes)?;
+        if row(&self.lists, group) >= ENDED {
+            return Ok(());
+        }
+        if closure.taken.saturating_add(turned.taken) > self.limit {
+            set_row(&mut self.is_cut, var, 1);
+            return Ok(());
+        }
+        closure.ask_before(scene.steps, own)?;
+        self.try_lists(scene, closure, turned, group, second)
+    }
+
+    // The firsts for the group's accesses.
+    fn list_firsts(
+        &mut self,
+        group: u32,
+        var: u32,
+        who: u32,
+        writes: bool,
+    ) -> Result<(), AllocError> {
+        if row(&self.lists, group) != NONE {
+            return Ok(());
+        }
+        set_row(&mut self.lists, group, ENDED);
+        let mut i = self.accesses.first_of(var);
+        for _ in 0..self.accesses.len() {
+            if i == NONE {
+                break;
+            }
+            let other = self.accesses.group(i);
+            if other.who != who && (writes || other.writes) {
+                let next = row(&self.lists, group);
+                let mut firsts = NO_FIRSTS;
+                firsts.first = other.first;
+                firsts.next = next;
+                let new = push_row(&mut self.firsts, firsts)?;
+                set_row(&mut self.lists, group, new);
+            }
+            i = other.next;
+        }
+        Ok(())
+    }
+
+    fn firsts(&self, i: u32) -> Firsts {
+        if (i as usize) < self.firsts.len() {
+            self.firsts[i as usize]
+        } else {
+            NO_FIRSTS
+        }
+    }
+
+    fn set_firsts(&mut self, i: u32, firsts: Firsts) {
+        if (i as usize) < self.firsts.len() {
+            self.firsts[i as usize] = firsts;
+        }
+    }
+
+    // Goes through the group's firsts for this second access, until a pair is found. Firsts that are used up leave the list.
+    fn try_lists(
+        &mut self,
+        scene: &Scene<A>,
+        closure: &mut Closure<A>,
+        turned: &mut Turned<A>,
+        group: u32,
+        second: u32,
+    ) -> Result<(), AllocError> {
+        let mut before = NONE;
+        let mut i = row(&self.lists, group);
+        for _ in 0..self.firsts.len() {
+            if i >= ENDED {
+                break;
+            }
+            let next = self.firsts(i).next;
+            let found = if closure.keeps_order {
+                self.try_firsts(scene, closure, i, second)?
+            } else {
+                self.turn_firsts(scene, closure, turned, i, second)?
+            };
+            if found {
+                return Ok(());
+            }
+            if self.firsts(i).first != NONE {
+                before = i;
+            } else if before == NONE {
+                set_row(&mut self.lists, group, next);
+            } else {
+                let mut firsts = self.firsts(before);
+                firsts.next = next;
+                self.set_firsts(before, firsts);
+            }
+            i = next;
+        }
+        Ok(())
+    }
+
+    // The next one from this one on that isn't in the closure, and has no common lock with the second one.
+    fn skip(&self, scene: &Scene<A>, closure: &Closure<A>, first: u32, second: u32) -> u32 {
+        let set = row(&self.shared.set, second);
+        let mut at = first;
+        for _ in 0..scene.trace.len() {
+            if at >= second {
+                break;
+            }
+            let other = row(&self.shared.set, at);
+            if !closure.has(scene.part(at)) && !self.shared.locks.exclude(other, set) {
+                break;
+            }
+            at = self.accesses.next_of(at);
+        }
+        at
+    }
+
+    // Tries firsts until one of them may stand beside the second access.
+    fn try_firsts(
+        &mut self,
+        scene: &Scene<A>,
+        closure: &mut Closure<A>,
+        i: u32,
+        second: u32,
+    ) -> Result<bool, AllocError> {
+        let mut firsts = self.firsts(i);
+        let mut first = self.skip(scene, closure, firsts.first, second);
+        let mut found = false;
+        closure.begin();
+        for _ in 0..scene.trace.len() {
+            if first >= second || closure.taken > self.limit {
+                break;
+            }
+            let part = scene.part(first);
+            closure.ask_before(scene.steps, part)?;
+            found = !closure.has(part);
+            if found {
+                break;
+            }
+            first = self.skip(scene, closure, first, second);
+        }
+        closure.take_back();
+        firsts.first = first;
+        self.set_firsts(i, firsts);
+        if found {
+            self.find(scene, first, second, 0);
+        }
+        Ok(found)
+    }
+
+    // The pair is found.
+    fn find(&mut self, scene: &Scene<A>, first: u32, second: u32, is_turned: u32) {
+        let (var, _) = access_at(scene.trace, second);
+        set_row(&mut self.first, var, first);
+        set_row(&mut self.second, var, second);
+        set_row(&mut self.is_turned, var, is_turned);
+    }
+
+    // The same in another order. Of the accesses between two events that are none, one is tried.
+    fn turn_firsts(
+        &mut self,
+        scene: &Scene<A>,
+        closure: &mut Closure<A>,
+        turned: &mut Turned<A>,
+        i: u32,
+        second: u32,
+    ) -> Result<bool, AllocError> {
+        let mut firsts = self.firsts(i);
+        let segment = row(&turned.segment, second);
+        if firsts.segment == segment || firsts.tries >= TURNS {
+            return Ok(false);
+        }
+        firsts.segment = segment;
+        let mut first = self.skip(scene, closure, firsts.first, second);
+        let mut last = NONE;
+        let mut found = false;
+        for _ in 0..scene.trace.len() {
+            if first >= second || found || firsts.tries >= TURNS {
+                break;
+            }
+            if row(&turned.segment, first) != last {
+                last = row(&turned.segment, first);
+                firsts.tries = firsts.tries.saturating_add(1);
+                found = self.turn(scene, closure, turned, first, second)?;
+            }
+            if !found {
+                let next = self.accesses.next_of(first);
+                first = self.skip(scene, closure, next, second);
+            }
+        }
+        self.set_firsts(i, firsts);
+        if found {
+            self.find(scene, first, second, 1);
+        }
+        Ok(found)
+    }
+
+    // Whether another order with the two at its end is found.
+    fn turn(
+        &mut self,
+        scene: &Scene<A>,
+        closure: &mut Closure<A>,
+        turned: &mut Turned<A>,
+        first: u32,
+        second: u32,
+    ) -> Result<bool, AllocError> {
+        if closure.taken.saturating_add(turned.taken) > self.limit {
+            let (var, _) = access_at(scene.trace, second);
+            set_row(&mut self.is_cut, var, 1);
+            return Ok(false);
+        }
+        let (one, other) = (scene.part(first), scene.part(second));
+        if !turned.complete(scene.steps, closure, one, other)? {
+            return Ok(false);
+        }
+        let found = turned.find_order(scene, closure, second)?;
+        closure.take_back();
+        Ok(found)
+    }
+
+    /// Searches the variables that are left in other orders.
+    pub(crate) fn search_turned(
+        &mut self,
+        scene: &Scene<A>,
+        closure: &mut Closure<A>,
+        turned: &mut Turned<A>,
+    ) -> Result<(), AllocError> {
+        for list in self.lists.iter_mut() {
+            *list = NONE;
+        }
+        closure.keeps_order = false;
+        self.limit = closure.taken.saturating_add(self.limit / 4);
+        self.search(scene, closure, turned)?;
+        closure.keeps_order = true;
+        Ok(())
+    }
+}

@@ -4,7 +4,7 @@
 usage: docs/check_commands.py PROGRAM [--recorder]
 
 PROGRAM is the built gorace, as crates/gorace/out/gorace, or a command of one word that runs it. With "-" nothing
-is run, and links, paths, promises and rows are looked at alone.
+is run, and links, paths, promises, quotations and rows are looked at alone.
 
 - A block marked `console` has commands behind "$ " (continued behind "> ") and what each prints, on
   standard output and standard error. It runs in a copy of the repository's examples and recorder.
@@ -12,19 +12,22 @@ is run, and links, paths, promises and rows are looked at alone.
 - A table with the columns File, Report and Status has a row for each file of its page's folder: a trace
   is checked, a program run and judged with --picks 0. No file may be without a row.
 - A link to a file of the repository leads to one, and to a heading of it.
-- A path that a table names, as race_text/src/form or race_model/specs/Order, is there, and so is one of the
-  column Files in the crate of the column Crate; and each function and clause that docs/PROVED.md names,
-  and each edit that docs/WRONG_BODIES.md names.
+- A path that a table or docs/PROVED.md names, as race_text/src/form or race_model/specs/Order, is there, and so
+  is one of the column Files in the crate of the column Crate; and each function and clause that a table of
+  promises names, in docs/PROVED.md or in a crate's README, and each edit that docs/WRONG_BODIES.md names.
+- A block marked `antt` and with a file, as race_model/specs/Race, is quoted as it stands there.
 
 docs/GETTING_STARTED.md is followed by recorder/test.sh.
 """
 
+import functools
 import pathlib
 import re
 import shutil
 import subprocess
 import sys
 import tempfile
+import textwrap
 
 ROOT = pathlib.Path(__file__).resolve().parent.parent
 FOLLOWED_ELSEWHERE = {"docs/GETTING_STARTED.md"}
@@ -183,9 +186,9 @@ def check_links(page, failures):
 
 
 def check_paths(page, failures):
-    """Paths in tables that begin with a crate and its folder, with the names behind a comma."""
+    """Paths in tables, and in all of docs/PROVED.md, that begin with a crate and its folder, with the names behind a comma."""
     count = 0
-    for line in re.findall(r"(?m)^\|.*\|$", without_blocks(page.read_text())):
+    for line in re.findall(r"(?m)^.*$" if page.name == "PROVED.md" else r"(?m)^\|.*\|$", without_blocks(page.read_text())):
         for crate, folder, first, rest in re.findall(
                 r"\b(?:crates/)?(race_\w+|gorace)/(src|specs|proofs)/([\w/]+)((?:, [A-Za-z]\w*)*)(?=[ ,;:|.`)]|$)", line):
             suffix = ".rt" if folder == "src" else ".antt"
@@ -225,30 +228,46 @@ def check_wrong_bodies(failures):
     return count
 
 
-def check_promises(failures):
-    """The functions and the clauses that the list of promises names, by their names alone."""
-    page, count = ROOT / "docs/PROVED.md", 0
-    code = "\n".join(f.read_text() for f in ROOT.glob("crates/*/src/**/*.rt"))
-    specs = "\n".join(f.read_text() for f in ROOT.glob("crates/*/specs/*.antt"))
-    known = set(re.findall(r"\b(?:fn|struct|enum|type|trait)\s+(\w+)", code)) | set(re.findall(r"\bensures (\w+)", code))
-    known |= set(re.findall(r"\bpub (?:record |abbrev )?(?:pub )?(\w+)", specs)) | set(re.findall(r"(?:pub )?mod (\w+);", code))
+@functools.cache
+def names_in(crate):
+    """The functions, types, modules, clauses and definitions of a crate, or of all by "*"."""
+    code = "\n".join(f.read_text() for f in ROOT.glob(f"crates/{crate}/src/**/*.rt"))
+    specs = "\n".join(f.read_text() for f in ROOT.glob(f"crates/{crate}/specs/*.antt"))
+    found = set(re.findall(r"\b(?:fn|struct|enum|type|trait|mod)\s+(\w+)", code)) | set(re.findall(r"\bensures (\w+)", code))
+    return found | set(re.findall(r"\bpub (?:record |abbrev )?(?:pub )?(\w+)", specs))
+
+
+def check_promises(page, failures):
+    """The functions and the clauses that a list of promises names, by their names alone. In a crate's README they are the
+    crate's own, or of a crate that their cell names."""
+    own, count = page.parent.name if page.name == "README.md" else "*", 0
     for table in tables_of(without_blocks(page.read_text())):
         for row in table:
             if "Promise" not in row and "Law" not in row:
                 continue
-            cells = [cell for column, cell in row.items() if column not in ("Promise", "Law")]
-            for named in re.findall(r"`([\w:]+)`", " ".join(cells)):
-                if named.split("::")[-1] not in known:
-                    failures.add(name(page), f"nothing has the name {named}")
-                count += 1
+            for cell in (cell for column, cell in row.items() if column not in ("Promise", "Law")):
+                known = set().union(*(names_in(crate) for crate in [own, *re.findall(r"\brace_\w+", cell)]))
+                for named in re.findall(r"`([\w:]+)`", cell):
+                    if not known.issuperset(named.split("::")):
+                        failures.add(name(page), f"nothing has the name {named}")
+                    count += 1
     return count
+
+
+def check_quotations(page, failures):
+    """Blocks marked `antt` with a file of definitions, as race_model/specs/Race, stand in it as they are quoted."""
+    found = re.findall(r"(?ms)^( *)```antt (\S+)$\n(.*?)^\1```$", page.read_text())
+    for _, file, block in found:
+        here = ROOT / "crates" / (file + ".antt")
+        if not here.exists() or textwrap.dedent(block) not in here.read_text():
+            failures.add(name(page), f"{file} isn't quoted as it stands:\n{block}")
+    return len(found)
 
 
 def check_all(program, with_recorder):
     """With no program what needs none."""
     failures = Failures()
-    counts = dict(commands=0, rows=0, links=0, paths=0)
-    counts["promises"] = check_promises(failures)
+    counts = dict(commands=0, rows=0, links=0, paths=0, promises=0, quotations=0)
     counts["wrong bodies"] = check_wrong_bodies(failures)
     with tempfile.TemporaryDirectory() as temporary:
         folder = pathlib.Path(temporary) if program else None
@@ -258,6 +277,9 @@ def check_all(program, with_recorder):
             counts["links"] += check_links(page, failures)
             counts["paths"] += check_paths(page, failures)
             counts["rows"] += check_tables(page, folder, failures)
+            counts["quotations"] += check_quotations(page, failures)
+            if name(page) == "docs/PROVED.md" or page.parent.parent == ROOT / "crates":
+                counts["promises"] += check_promises(page, failures)
             if folder and name(page) not in FOLLOWED_ELSEWHERE:
                 counts["commands"] += check_blocks(page, folder, with_recorder, failures)
     print("checked: " + ", ".join(f"{count} {what}" for what, count in counts.items()))

@@ -6,7 +6,7 @@ usage: docs/check_commands.py PROGRAM [--recorder]
 PROGRAM is the built gorace, as crates/gorace/out/gorace, or a command of one word that runs it. With "-" nothing
 is run, and links, paths, promises, quotations and rows are looked at alone.
 
-- A block marked `console` has commands behind "$ " (continued behind "> ") and what each prints, on
+- A block marked `console` has commands after "$ " (continued after "> ") and what each prints, on
   standard output and standard error. It runs in a copy of the repository's examples and recorder.
   Blocks that record Go programs need Go, and run with --recorder alone.
 - A table with the columns File, Report and Status has a row for each file of its page's folder: a trace
@@ -15,7 +15,9 @@ is run, and links, paths, promises, quotations and rows are looked at alone.
 - A path that a table or docs/PROVED.md names, as race_text/src/form or race_model/specs/Order, is there, and so
   is one of the column Files in the crate of the column Crate; and each function and clause that a table of
   promises names, in docs/PROVED.md or in a crate's README, and each edit that docs/WRONG_BODIES.md names.
-- A block marked `antt` and with a file, as race_model/specs/Race, is quoted as it stands there.
+- A block marked `antt` or `rust` and with a file, as race_model/specs/Race or race_legal/src/locks, is quoted as it is there, but for how far
+  all of it is indented.
+- No page has a phrase of PLAINER, outside of code: each has a plainer one.
 
 docs/GETTING_STARTED.md is followed by recorder/test.sh.
 """
@@ -33,6 +35,25 @@ ROOT = pathlib.Path(__file__).resolve().parent.parent
 FOLLOWED_ELSEWHERE = {"docs/GETTING_STARTED.md"}
 NEEDS_GO = re.compile(r"gorec|go build")
 SECONDS = 300
+PLAINER = (
+    (r"(?:want|lack) of memory", "out of memory"),
+    (r"memory aside", "unless out of memory"),
+    (r"st(?:ands?|ood|anding) for", "means, is, represents"),
+    (r"(?:is|are|was|were|be|been|being) told", "gets the answer, is reported"),
+    (r"(?:a|the|each|every) fronts? of|fronts of", "prefix of"),
+    (r"(?:the|a|its|each|own|whose) begin|(?:the|its|their) begins|begins of", "start of"),
+    (r"some (?:ten|twenty|\d[\d,.]*)", "about"),
+    (r"(?:this|the|one|our) house(?:'s)?", "this project"),
+    (r"hangs? together", "is consistent"),
+    (r"by halves", "by binary search"),
+    (r"in the square of", "quadratic in"),
+    (r"(?:is|are|was|were) said of", "says of, holds for"),
+    (r"what was to (?:be|come)", "the rest"),
+    (r"(?:is|are|to be) had", "is available"),
+    (r"it (?:is|isn't) so that", "a plain sentence"),
+    (r"(?:there|here|where|what)of", "of it, of which"),
+    (r"of several the", "the .. of them"),
+)
 
 
 def pages():
@@ -186,7 +207,7 @@ def check_links(page, failures):
 
 
 def check_paths(page, failures):
-    """Paths in tables, and in all of docs/PROVED.md, that begin with a crate and its folder, with the names behind a comma."""
+    """Paths in tables, and in all of docs/PROVED.md, that begin with a crate and its folder, with the names after a comma."""
     count = 0
     for line in re.findall(r"(?m)^.*$" if page.name == "PROVED.md" else r"(?m)^\|.*\|$", without_blocks(page.read_text())):
         for crate, folder, first, rest in re.findall(
@@ -254,20 +275,37 @@ def check_promises(page, failures):
     return count
 
 
+def has_lines(text, block):
+    """Whether the lines of the block follow each other in the text, all of them indented further or not."""
+    wanted, lines = textwrap.dedent(block).splitlines(), text.splitlines()
+    return any(textwrap.dedent("\n".join(lines[at : at + len(wanted)])).splitlines() == wanted for at in range(len(lines)))
+
+
 def check_quotations(page, failures):
-    """Blocks marked `antt` with a file of definitions, as race_model/specs/Race, stand in it as they are quoted."""
-    found = re.findall(r"(?ms)^( *)```antt (\S+)$\n(.*?)^\1```$", page.read_text())
-    for _, file, block in found:
-        here = ROOT / "crates" / (file + ".antt")
-        if not here.exists() or textwrap.dedent(block) not in here.read_text():
-            failures.add(name(page), f"{file} isn't quoted as it stands:\n{block}")
+    """Blocks marked `antt` with a file of definitions or of a proof, as race_model/specs/Race, or `rust` with one of code, as
+    race_legal/src/locks, are in it as they are quoted."""
+    found = re.findall(r"(?ms)^( *)```(antt|rust) (\S+)$\n(.*?)^\1```$", page.read_text())
+    for _, language, file, block in found:
+        here = ROOT / "crates" / (file + (".antt" if language == "antt" else ".rt"))
+        if not here.exists() or not has_lines(here.read_text(), block):
+            failures.add(name(page), f"{file} isn't quoted as it is there:\n{block}")
     return len(found)
+
+
+def check_words(page, failures):
+    """Phrases of PLAINER in the text of a page; what is code may have them."""
+    hidden = re.sub(r"(?ms)^ *```.*?^ *```$|`[^`\n]+`", lambda code: re.sub(r"[^\n]", " ", code[0]), page.read_text())
+    for phrase, plainer in PLAINER:
+        for found in re.finditer(rf"(?i)\b(?:{phrase})\b", hidden):
+            line = hidden.count("\n", 0, found.start()) + 1
+            failures.add(f"{name(page)}:{line}", f'say "{found[0]}" in plainer words: {plainer}')
+    return 1
 
 
 def check_all(program, with_recorder):
     """With no program what needs none."""
     failures = Failures()
-    counts = dict(commands=0, rows=0, links=0, paths=0, promises=0, quotations=0)
+    counts = dict(commands=0, rows=0, links=0, paths=0, promises=0, quotations=0, pages=0)
     counts["wrong bodies"] = check_wrong_bodies(failures)
     with tempfile.TemporaryDirectory() as temporary:
         folder = pathlib.Path(temporary) if program else None
@@ -278,6 +316,7 @@ def check_all(program, with_recorder):
             counts["paths"] += check_paths(page, failures)
             counts["rows"] += check_tables(page, folder, failures)
             counts["quotations"] += check_quotations(page, failures)
+            counts["pages"] += check_words(page, failures)
             if name(page) == "docs/PROVED.md" or page.parent.parent == ROOT / "crates":
                 counts["promises"] += check_promises(page, failures)
             if folder and name(page) not in FOLLOWED_ELSEWHERE:

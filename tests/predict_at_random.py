@@ -64,7 +64,8 @@ def look_at_certificate(gorace, trace, var, pair, line):
         raise Wrong(line, trace.text, text, "the recorded order")
     gorace.tells(certificate.told(), text.encode(), "check")
     count = len(certificate.events)
-    if certificate.reported()[var] != (count - 2, count - 1):
+    # In another order an earlier pair on the variable may race, too, and then check reports that one.
+    if "--turned" not in line and certificate.reported()[var] != (count - 2, count - 1):
         raise Wrong(line, trace.text, text, f"no race on {var} before those two")
 
 

@@ -50,38 +50,34 @@ func (sh *shard) locationOf(p unsafe.Pointer, size uintptr) (i int, bytes uint8)
 }
 
 // readBytes has the locks of n bytes, which are read.
-func (o user) readBytes(p unsafe.Pointer, n, offset uintptr) {
+func (o user) readBytes(p unsafe.Pointer, n, offset uintptr) { o.useBytes(wire.Read, p, n, offset) }
+
+// wroteBytes has the locks of n bytes, which were written.
+func (o user) wroteBytes(p unsafe.Pointer, n, offset uintptr) { o.useBytes(wire.Write, p, n, offset) }
+
+func (o user) useBytes(op wire.Op, p unsafe.Pointer, n, offset uintptr) {
 	for n > 0 {
 		word, bytes, count := wordAt(p, n)
 		sh := shardOf(word)
 		i := sh.locate(word, inWord)
-		if sh.isApart(i, o, wire.Read, bytes) {
+		if sh.isApart(i, o, op, bytes) {
 			for k := uintptr(0); k < count; k++ {
 				q := unsafe.Add(p, k)
-				o.readAt(sh, sh.locate(q, wire.VarMemory), bitsOf(q, 1), whole, offset)
+				o.useAt(op, sh, sh.locate(q, wire.VarMemory), bitsOf(q, 1), whole, offset)
 			}
 		} else {
-			o.readAt(sh, i, bitsIn(p, bytes, count), bytes, offset)
+			o.useAt(op, sh, i, bitsIn(p, bytes, count), bytes, offset)
 		}
 		p, n = unsafe.Add(p, count), n-count
 	}
 }
 
-// wroteBytes has the locks of n bytes, which were written.
-func (o user) wroteBytes(p unsafe.Pointer, n, offset uintptr) {
-	for n > 0 {
-		word, bytes, count := wordAt(p, n)
-		sh := shardOf(word)
-		i := sh.locate(word, inWord)
-		if sh.isApart(i, o, wire.Write, bytes) {
-			for k := uintptr(0); k < count; k++ {
-				q := unsafe.Add(p, k)
-				o.wroteAt(sh, sh.locate(q, wire.VarMemory), bitsOf(q, 1), whole, offset)
-			}
-		} else {
-			o.wroteAt(sh, i, bitsIn(p, bytes, count), bytes, offset)
-		}
-		p, n = unsafe.Add(p, count), n-count
+// useAt is readAt or wroteAt.
+func (o user) useAt(op wire.Op, sh *shard, i int, bits uint64, bytes uint8, offset uintptr) {
+	if op == wire.Write {
+		o.wroteAt(sh, i, bits, bytes, offset)
+	} else {
+		o.readAt(sh, i, bits, bytes, offset)
 	}
 }
 

@@ -130,12 +130,15 @@ func (g *G) tryReceive(s *Site, c communication) bool {
 }
 
 // send has the lock; there is room in the buffer.
-func (g *G) send(s *Site, c communication) {
+func (g *G) send(s *Site, c communication) { g.sent(done(c), s) }
+
+// done has the lock; it does what is possible, and answers the channel.
+func done(c communication) *channel {
 	ch := c.state().channel
 	if did, _ := c.try(); !did {
 		panic("gorec: a channel isn't as recorded")
 	}
-	g.sent(ch, s)
+	return ch
 }
 
 // sent has the lock: a value was put into the buffer.
@@ -146,13 +149,7 @@ func (g *G) sent(ch *channel, s *Site) {
 }
 
 // receive has the lock; there is a value in the buffer.
-func (g *G) receive(s *Site, c communication) {
-	ch := c.state().channel
-	if did, _ := c.try(); !did {
-		panic("gorec: a channel isn't as recorded")
-	}
-	g.received(ch, s)
-}
+func (g *G) receive(s *Site, c communication) { g.received(done(c), s) }
 
 // received has the lock: a value was taken out of the buffer.
 func (g *G) received(ch *channel, s *Site) {

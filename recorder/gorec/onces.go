@@ -85,3 +85,55 @@ func (x OnceAt) done() {
 	}
 	mu.Unlock()
 }
+
+// called is what OnceFunc and its like make: a function that is called once. Where it panics each
+// call of it does.
+type called struct {
+	once  sync.Once
+	f     func()
+	valid bool
+	cause any // of the panic
+	s     *Site
+}
+
+func (c *called) do() {
+	Once(&c.once, c.s).Do(c.call)
+	if !c.valid {
+		panic(c.cause)
+	}
+}
+
+func (c *called) call() {
+	defer func() {
+		c.f, c.cause = nil, recover()
+		if !c.valid {
+			panic(c.cause)
+		}
+	}()
+	c.f()
+	c.valid = true
+}
+
+// OnceFunc is sync.OnceFunc, from Go 1.21.
+func OnceFunc(f func(), s *Site) func() { return (&called{f: f, s: s}).do }
+
+// OnceValue is sync.OnceValue, from Go 1.21.
+func OnceValue[T any](f func() T, s *Site) func() T {
+	var v T
+	do := OnceFunc(func() { v = f() }, s)
+	return func() T {
+		do()
+		return v
+	}
+}
+
+// OnceValues is sync.OnceValues, from Go 1.21.
+func OnceValues[A, B any](f func() (A, B), s *Site) func() (A, B) {
+	var a A
+	var b B
+	do := OnceFunc(func() { a, b = f() }, s)
+	return func() (A, B) {
+		do()
+		return a, b
+	}
+}

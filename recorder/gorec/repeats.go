@@ -62,11 +62,8 @@ func (t *repeats) at(p unsafe.Pointer) *repeat {
 	return &t.entries[(h^h>>15)&uintptr(len(t.entries)-1)]
 }
 
-// has reports whether all that is accessed was.
+// has reports whether all that is accessed was; the table isn't empty.
 func (t *repeats) has(r repeat) bool {
-	if len(t.entries) == 0 {
-		return false
-	}
 	e := t.at(r.p)
 	return e.p == r.p && e.stamp == r.stamp && e.size >= r.size && r.bytes&^e.bytes == 0 && r.p != nil
 }
@@ -114,12 +111,22 @@ func (t *repeats) drop(p unsafe.Pointer) {
 // hasRead reports whether what begins at p was read or written with a record, which stands for a
 // read now too. Otherwise this one is going to have it.
 func (g *G) hasRead(p unsafe.Pointer, size uintptr) bool {
-	return g.reads.note(repeatOf(p, size, g.epoch+atomic.LoadUint32(&era)))
+	stamp := g.epoch + atomic.LoadUint32(&era)
+	return g.reads.hasWhole(p, size, stamp) || g.reads.note(repeatOf(p, size, stamp))
+}
+
+// hasWhole reports at once what note reports, for most accesses of more than one byte; or false.
+func (t *repeats) hasWhole(p unsafe.Pointer, size uintptr, stamp uint32) bool {
+	if size == 1 || len(t.entries) == 0 {
+		return false
+	}
+	e := t.at(p)
+	return e.p == p && e.stamp == stamp && uintptr(e.size) >= size
 }
 
 // hasLeave reports whether a write of what begins at p needs no record and no lock.
 func (g *G) hasLeave(p unsafe.Pointer, size uintptr) bool {
-	return g.writes.has(repeatOf(p, size, g.stamp()))
+	return len(g.writes.entries) > 0 && g.writes.has(repeatOf(p, size, g.stamp()))
 }
 
 // stamp is the sum of numbers that only grow, so it changes with each of them.

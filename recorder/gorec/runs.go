@@ -54,10 +54,14 @@ var ranOn uint32
 
 // goneOn counts an access of a run.
 func (w *window) goneOn() {
-	if w.ranOn++; w.ranOn < unsaid {
-		return
+	if w.ranOn++; w.ranOn == unsaid {
+		w.ranOn = 0
+		sayRanOn()
 	}
-	w.ranOn = 0
+}
+
+// sayRanOn counts the accesses of runs that a window told.
+func sayRanOn() {
 	switch count := atomic.AddUint32(&ranOn, unsaid) + atomic.LoadUint32(&header.Records); {
 	case isFull(count):
 		atomic.StoreUint32(&full, 1)

@@ -16,12 +16,14 @@ import (
 // for those that read so.
 
 const (
-	heapBegin  = 0xc000000000 // of Go's heap
-	shadowSize = 1 << 34      // of that many bytes of it; what isn't used takes no memory
+	shadowSize = 1 << 34 // of that many bytes of the heap; what isn't used takes no memory
+	arena      = 1 << 26 // the runtime takes memory for the heap by stretches of that many bytes
 )
 
 var (
 	shadow     unsafe.Pointer // nil: there is none
+	onHeap     *user          // something that is there
+	heapBegin  uintptr        // where the heap begins: from Go 1.26 elsewhere in each run
 	shadowEnds uintptr        // how many bytes of the heap have one
 	barred     bool           // bar works
 )
@@ -50,6 +52,8 @@ func openShadow() {
 	if err == nil {
 		syscall.Madvise(b, syscall.MADV_NOHUGEPAGE)
 		shadow, shadowEnds = unsafe.Pointer(&b[0]), shadowSize
+		onHeap = new(user)
+		heapBegin = uintptr(unsafe.Pointer(onHeap)) &^ (arena - 1) // little was made before, so this is the first stretch
 		barred = bar(barLater)
 	}
 }

@@ -14,6 +14,9 @@ func TestReadsShown(t *testing.T) {
 		t.Skip("no shadow")
 	}
 	x, b, ts := new(int), make([]byte, 8), newTurns(t, 2)
+	if shadowOf(unsafe.Pointer(x)) == nil || shadowOf(unsafe.Pointer(&b[0])) == nil {
+		t.Fatal("memory of the heap has no shadow")
+	}
 	sites := make([]Site, 10)
 	for i := range sites {
 		sites[i].ID = uint32(i)

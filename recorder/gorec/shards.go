@@ -158,8 +158,8 @@ func (sh *shard) locate(p unsafe.Pointer, kind wire.VarKind) int {
 }
 
 // stride is how far the next place is where a location is looked for. It is odd, so that all
-// places are, and leads out of the line of a cache, which neighbours have filled.
-const stride = 9
+// places are, and leads out of the words of a block, which neighbours have filled.
+const stride = block/8 + 1
 
 // find is where a location stands, or would.
 func (sh *shard) find(p unsafe.Pointer, kind wire.VarKind) int {
@@ -171,11 +171,12 @@ func (sh *shard) find(p unsafe.Pointer, kind wire.VarKind) int {
 	return int(i)
 }
 
-// hash has the words of 64 bytes beside one another, and each of their other bytes elsewhere.
+// hash has the words of a block beside one another, so that who goes along them finds the next
+// one there, and each of their other bytes elsewhere.
 func hash(p unsafe.Pointer) uintptr {
 	h := uintptr(p)
-	line := h>>6<<3 | h&7
-	return (line^line>>17)*0x9e3779b97f4a7c15>>20<<3 | h>>3&7
+	of := h>>blockBits<<3 | h&7
+	return (of^of>>17)*0x9e3779b97f4a7c15>>20<<3 + h>>3&(block/8-1)
 }
 
 // resize has the lock. It makes a table of so many entries, without those that aren't kept.

@@ -1,6 +1,9 @@
 package gorec
 
-import "reflect"
+import (
+	"reflect"
+	"strings"
+)
 
 // Goroutines also meet where a Reader or a Writer stands before a file or a connection, or
 // where a function of the standard library is handed one of these.
@@ -11,10 +14,11 @@ var outlets = map[string]bool{
 	"*tls.Conn": true, "*io.PipeReader": true, "*io.PipeWriter": true,
 }
 
-// passing are types that stand before others, and the field that says which.
-var passing = map[string]string{
-	"*bufio.Reader": "rd", "*bufio.Writer": "wr", "*bufio.Scanner": "r", "*csv.Reader": "r", "*csv.Writer": "w",
-	"*json.Decoder": "r", "*json.Encoder": "w", "*tabwriter.Writer": "output",
+// passing are types that stand before others, and the fields that lead there. Where versions of Go
+// have others, each has its way.
+var passing = map[string][]string{
+	"*bufio.Reader": {"rd"}, "*bufio.Writer": {"wr"}, "*bufio.Scanner": {"r"}, "*csv.Reader": {"r"}, "*csv.Writer": {"w"},
+	"*json.Decoder": {"r", "dec.s.rd"}, "*json.Encoder": {"w"}, "*tabwriter.Writer": {"output"},
 }
 
 // leadsOut reports whether a Reader or a Writer is a file or a connection, or stands before one.
@@ -30,12 +34,25 @@ func leadsOut(v reflect.Value) bool {
 		if outlets[t] {
 			return true
 		}
-		field, ok := passing[t]
-		if !ok {
-			return false
-		}
-		v = v.Elem().FieldByName(field)
+		v = before(v, passing[t])
 	}
+}
+
+// before is what something leads to by the first of these ways that it has.
+func before(v reflect.Value, ways []string) (to reflect.Value) {
+	for _, way := range ways {
+		to = v
+		for _, name := range strings.Split(way, ".") {
+			if to = reflect.Indirect(to); to.Kind() != reflect.Struct {
+				return reflect.Value{}
+			}
+			to = to.FieldByName(name)
+		}
+		if to.IsValid() {
+			return to
+		}
+	}
+	return reflect.Value{}
 }
 
 // StreamOut is a Writer that is used.

@@ -76,6 +76,20 @@ func (x WaitGroupAt) Add(n int) {
 // Done is that of the group.
 func (x WaitGroupAt) Done() { x.Add(-1) }
 
+// Go is that of the group, from Go 1.25. Where f panics nobody who waits goes on.
+func (x WaitGroupAt) Go(f func()) {
+	x.Add(1)
+	Go(x.s, func() {
+		defer func() {
+			if p := recover(); p != nil {
+				panic(p)
+			}
+			x.Done()
+		}()
+		f()
+	})
+}
+
 // Wait is that of the group; it comes after the Dones of its round.
 func (x WaitGroupAt) Wait() {
 	if off {

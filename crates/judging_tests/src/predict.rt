@@ -1,6 +1,7 @@
 //! Races of other runs: each that is told has a run of its own, which ends with it.
-use race_predict::{PredictFault, certificate, predict, predict_on};
+use race_predict::{PredictFault, certificate};
 use race_records::Trace;
+use race_search::{predict, predict_on};
 use race_shards::judge_alone;
 use race_text::parse_trace;
 use race_verdict::Verdict;
@@ -63,7 +64,10 @@ fn predicted(
     let verdict = judge_alone(alloc, &trace)?;
     let mut predictions = predict(alloc, &trace, &verdict, most, turned)?;
     match predictions.found.pop() {
-        Some(prediction) => {
+        Some(race) => {
+            let Some(prediction) = predict_on(alloc, &trace, &verdict, race.var, turned)? else {
+                return Ok(None);
+            };
             let shown = certificate(alloc, &trace, &verdict, &prediction)?;
             let ends_in_race = match judge_alone(alloc, &shown)? {
                 Verdict::Races(races) => {
@@ -74,7 +78,9 @@ fn predicted(
                 }
                 _ => false,
             };
-            if ends_in_race && shown.len() == prediction.order.len() {
+            let ends_with = [race.first, race.second];
+            let is_its_pair = prediction.order.ends_with(&ends_with);
+            if ends_in_race && is_its_pair && shown.len() == prediction.order.len() {
                 Ok(Some(prediction.order))
             } else {
                 Ok(None)
@@ -132,8 +138,7 @@ fn what_is_no_prediction_has_no_certificate(rt: HostRuntime) -> Result<(), Fail>
     let alloc = rt.alloc();
     let trace = traced(alloc, ROWS[0].0)?;
     let verdict = judge_alone(alloc, &trace)?;
-    let mut predictions = predict(alloc, &trace, &verdict, 1, false)?;
-    let told = match predictions.found.pop() {
+    let told = match predict_on(alloc, &trace, &verdict, 0, false)? {
         Some(mut prediction) => {
             prediction.order.truncate(3);
             certificate(alloc, &trace, &verdict, &prediction).err()

@@ -5,7 +5,7 @@ use Rattle.std.specs.{Option.option_map, String.string_bytes, declared.{io.{Erro
 use Rattle.clap.specs.declared.error.kind.ErrorKind.{ErrorKind}
 use Rattle.race_records.specs.declared.{source.Source.Source, sink.Sink.Sink}
 use Rattle.race_command.specs.{declared.command.Request.Request, Request.is_in_limits}
-use Rattle.race_tool.specs.{Draw.Draws, Edges.Lists, Finding.Checks, Options.picks_asked, Predict.{Certifies, Predicts}}
+use Rattle.race_tool.specs.{Draw.Draws, Edges.Lists, Explain.Explains, Finding.Checks, Options.picks_asked, Predict.{Certifies, Predicts}}
 use Rattle.race_tool.specs.{Race.Judges, Run.Runs, Witness.Shows}
 use Rattle.std.specs.declared.io.ErrorKind.TheVariants as io
 use Rattle.clap.specs.declared.error.kind.ErrorKind.TheVariants as kind
@@ -15,6 +15,7 @@ use Rattle.race_tool.specs.declared.status.TheConstants as status
 abbrev pub Does : {R W : Type 0} → Request → (R → Option (List ℕ)) → (W → Option (List ℕ)) → Source R → Source R → Sink W → Sink W → ℕ → Type 0
 Does (Request.Check options) remaining contents source source_now sink sink_now answer =
     Checks options.plain remaining contents source source_now sink sink_now answer
+Does Request.Explain remaining contents source source_now sink sink_now answer = Explains Global remaining contents source source_now sink sink_now answer
 Does Request.Edges remaining contents source source_now sink sink_now answer = Lists Global remaining contents source source_now sink sink_now answer
 Does (Request.Run options) remaining contents source source_now sink sink_now answer =
     Runs options.limit (picks_asked options) remaining contents source source_now sink sink_now answer

@@ -6,6 +6,7 @@ use Rattle.race_tool.specs.{Outcome.are_in_limits, Options.are_run_limits, Predi
 -- the options of the request are in their limits
 abbrev pub is_in_limits : Request → Bool
 is_in_limits (Request.Check options) = are_in_limits options
+is_in_limits Request.Explain = true
 is_in_limits Request.Edges = true
 is_in_limits (Request.Run options) = are_run_limits options
 is_in_limits (Request.Race run check) = are_run_limits run && are_in_limits check

@@ -22,6 +22,8 @@ use std::convert::AsStr;
 pub(crate) enum Request {
     /// Judge the trace on standard input.
     Check(CheckOptions),
+    /// Judge the trace on standard input, and explain the report.
+    Explain,
     /// List the synchronization edges of the trace on standard input.
     Edges,
     /// Run the program on standard input.
@@ -103,6 +105,9 @@ fn request_in(alloc: Global, matches: &ArgMatches<'_>) -> Result<Request, Error>
     if let Some(given) = matches.subcommand_matches("predict") {
         return predict_request(alloc, given);
     }
+    if matches.subcommand_matches("explain").is_some() {
+        return Ok(Request::Explain);
+    }
     match matches.subcommand_matches("edges") {
         Some(_) => Ok(Request::Edges),
         None => Err(no_command(alloc)?),
@@ -120,6 +125,7 @@ fn gorace<'a>(alloc: Global) -> Result<Command<'a>, AllocError> {
         .after_help(help::AFTER_HELP)
         .subcommand_required(true);
     let command = with_subcommand(command, check(alloc))?;
+    let command = with_subcommand(command, Ok(explain(alloc)))?;
     let command = with_subcommand(command, Ok(edges(alloc)))?;
     let command = with_subcommand(command, run(alloc))?;
     let command = with_subcommand(command, race(alloc))?;
@@ -142,6 +148,13 @@ fn check<'a>(alloc: Global) -> Result<Command<'a>, AllocError> {
         .override_usage(help::CHECK_USAGE)
         .after_help(help::CHECK_HELP);
     with_check_options(alloc, command)
+}
+
+fn explain<'a>(alloc: Global) -> Command<'a> {
+    Command::new(alloc, "explain")
+        .about(help::EXPLAIN_ABOUT)
+        .override_usage(help::EXPLAIN_USAGE)
+        .after_help(help::EXPLAIN_HELP)
 }
 
 fn edges<'a>(alloc: Global) -> Command<'a> {

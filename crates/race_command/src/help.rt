@@ -6,7 +6,9 @@ pub(crate) const VERSION: &str = "0.1.0 (proved with rattle-kit-13b, logic dac82
 
 pub(crate) const AFTER_HELP: &str = "\
 'gorace check --help' says what a trace is, with an example, and what the statuses mean;
-'gorace run --help' says what a program is.";
+'gorace run --help' says what a program is. Traces of Go programs are made by gorec:
+'gorec run .' in a program's folder records it and judges the trace, and 'gorec help'
+says more.";
 
 pub(crate) const CHECK_ABOUT: &str = "Reads a trace from standard input and writes its report";
 
@@ -36,7 +38,35 @@ Statuses:
   1   an event that breaks a rule of traces; its number, and the rule
   2   not a trace; the line at fault and why
   3   usage, or more events than --plain takes (2,000)
-  4   memory or a thread was refused
+  4   out of memory, or a thread could not be started
+  5   reading or writing failed";
+
+pub(crate) const EXPLAIN_ABOUT: &str = "Reads a trace from standard input and explains its report";
+
+pub(crate) const EXPLAIN_USAGE: &str = "gorace explain < TRACE";
+
+pub(crate) const EXPLAIN_HELP: &str = "\
+This writes the report of 'gorace check', and after it
+
+  of a line at fault: the line, a mark below the word at fault, and what is
+  wanted there;
+  of an event that breaks a rule: the event, its line, and why it breaks the rule,
+  with the values and the events that this comes from;
+  of each race: both accesses with their lines, what each goroutine had locked,
+  its last synchronization before, who started it, and what the second access has
+  seen of the first one's goroutine;
+  of a clean trace: how much of what is declared is used, what isn't, and whether
+  an event ends the run.
+
+A line is shown in quotes, of a long one the part around the mark.
+
+Statuses, as those of a check:
+  0   clean: legal, and no data race
+  66  data races
+  1   an event that breaks a rule of traces
+  2   not a trace
+  3   usage
+  4   out of memory
   5   reading or writing failed";
 
 pub(crate) const EDGES_ABOUT: &str =
@@ -50,7 +80,7 @@ A line for each synchronization edge, and their count:
   edge 1 main 1 w
   edges: 1
 
-says that the begin of main's part in event 1 is synchronized before the end of
+says that the start of main's part in event 1 is synchronized before the end of
 w's part in event 1. What one goroutine does in order isn't listed.
 
 Statuses:
@@ -58,7 +88,7 @@ Statuses:
   1   an event that breaks a rule of traces; its number, and the rule
   2   not a trace; the line at fault and why
   3   usage, or more events than are taken (2,000)
-  4   memory was refused
+  4   out of memory
   5   reading or writing failed";
 
 pub(crate) const WITNESS_ABOUT: &str =
@@ -68,18 +98,18 @@ pub(crate) const WITNESS_USAGE: &str = "gorace witness VAR < TRACE";
 
 pub(crate) const WITNESS_HELP: &str = "\
 A check names two accesses of a variable that race. This writes all accesses of
-the trace in an order in which these two stand side by side, the second before
-the first, and their count. Of the trace of 'gorace check --help' it shows on x
+the trace in an order in which these two are neighbours, the second before the
+first, and their count. Of the trace of 'gorace check --help' it shows on x
 
   3 read w x
   2 write main x
   witness: 2 accesses
 
-An order shows a race if each access stands behind all that happen before it:
-'gorace edges' lists what that comes from, and what one goroutine does in order.
-In front stand the accesses that happen before either of the two, then the two,
-then all others. It isn't said that a run of the program takes this order, or
-that reads which come later in it find the values that they found.
+An order shows a race if each access comes after all that happen before it, by
+the edges that 'gorace edges' lists and by what each goroutine does in order.
+First come the accesses that happen before either of the two, then the two, then
+all others. A run of the program need not take this order, and in it reads after
+the two may find other values.
 
 Statuses:
   0   the accesses are written
@@ -87,7 +117,7 @@ Statuses:
   1   an event that breaks a rule of traces; its number, and the rule
   2   not a trace; the line at fault and why
   3   usage
-  4   memory was refused
+  4   out of memory
   5   reading or writing failed";
 
 pub(crate) const DRAW_ABOUT: &str = "Reads a trace from standard input and draws it";
@@ -99,39 +129,38 @@ A check names two accesses of a variable that race. This draws why nothing
 orders them. Of the trace of 'gorace check --help' it draws
 
   races: 1
+  (... is the order that is missing, === the way of what was seen, --- another edge)
 
   race on x: write by main at a.go:3 (event 2), read by w at a.go:6 (event 3)
 
-     main
-     |       w
-     o=======|=======================+      1  go main w a.go:2
-     |       o<======================+      1
-     W . . . . . . . . . . . ?              2  write main x 1 a.go:3
-     |       R<. . . . . . . :              3  read w x 1 a.go:6
+   main
+   |   w
+   o==>o        1  go main w a.go:2
+   W...|....    2  write main x 1 a.go:3
+   |   R<...    3  read w x 1 a.go:6
 
   main's write is event 2, and w has seen main up to event 1: go main w a.go:2
 
 A goroutine goes down in its column: that of the first access, that of the
-second, and one for all others. W and R are the two, and the dotted line is the
-way that is missing. The other lines are edges, as 'gorace edges' lists them:
-by double strokes the way by which the second access has seen something of the
-first one's goroutine, and by single ones the next edge that leaves that
-goroutine behind its access, and the starts of the two. An event has a line for
-each that leaves it or enters it.
+second, and others that an arrow leaves or enters. W and R are the two, and the
+dotted line is the order that is missing. The other lines are edges, as 'gorace
+edges' lists them: by double strokes the way by which the second access has seen
+something of the first one's goroutine, and by single ones the next edge that
+leaves that goroutine after its access, and the starts of the two.
 
 Without VAR each variable's race is drawn, and of a clean trace of at most 60
-events a chart: a row for each event, and the edges but those that two others
-lead along. With --svg the same is written as an SVG document, which a browser
-shows. Where there is nothing to draw one line tells so, also with --svg. Of
+events a chart: a row for each event, and the edges but those that one or two
+others lead along. With --svg the same is written as an SVG document, which a browser
+shows. Where there is nothing to draw one line says so, also with --svg. Of
 more than 2,000 events no edge is drawn.
 
 Statuses:
-  0   it is drawn, or is a clean trace that has no chart, and told
+  0   it is drawn; or one line says that a clean trace has no chart
   14  the name is that of no variable with a race
   1   an event that breaks a rule of traces; its number, and the rule
   2   not a trace; the line at fault and why
   3   usage
-  4   memory was refused
+  4   out of memory
   5   reading or writing failed";
 
 pub(crate) const PREDICT_ABOUT: &str =
@@ -155,7 +184,7 @@ before w's read.
   unlock w m a.go:10
   read w x 1 a.go:11
 
-Had w locked first, nothing would order them. Behind the report of a check this
+Had w locked first, nothing would order them. After the report of a check this
 finds:
 
   clean: 7 events, 2 accesses
@@ -171,8 +200,8 @@ With VAR it writes the trace of such a run, which ends with the two accesses:
   read w x 1 a.go:11
 
 'gorace check' finds a race on VAR in it, and 'gorace draw' draws it. In that run
-each goroutine does what it did in the recorded one, up to some point, and is
-told the same; of the last two events a read may find another value. A program
+each goroutine does what it did in the recorded one, up to some point, with the
+same values; of the last two events a read may find another value. A program
 that knows more than its trace, as by a clock, may have no such run.
 
 Not all such races are found. Without --turned what is done of the recorded
@@ -186,7 +215,7 @@ Statuses:
   1   an event that breaks a rule of traces; its number, and the rule
   2   not a trace; the line at fault and why
   3   usage
-  4   memory was refused
+  4   out of memory
   5   reading or writing failed";
 
 pub(crate) const RUN_ABOUT: &str =
@@ -214,10 +243,10 @@ header is 'goprogram 1', or 'goprogram 2' where it has tries to lock.
   exit w:3
 
 A goroutine goes on to its next step as soon as it has done one. Where several
-could do their steps next, a pick says which: they stand in the order in which
-they came to their steps, a meet where its sender stands, a try that could
-succeed twice, its success first; and a pick is a number modulo their count.
-Each event uses up a pick; behind the last one they are 0.
+could do their steps next, a pick says which. They are listed in the order in
+which they came to their steps: a meet where its sender is, a try that could
+succeed twice, its success first. A pick is a number modulo their count. Each
+event uses up a pick; after the last one they are 0.
 With --picks 0,0,0,1 main reads before w exits; with --picks 0 w exits first.
 
 Without --picks workers run the goroutines, each on a thread, and the picks come
@@ -231,10 +260,10 @@ Statuses:
   10  a goroutine failed, as by a close of a closed channel
   11  deadlock: each goroutine waits, and none can go on
   12  the limit is reached
-  13  a goroutine asked what can't be, as to start another a second time
+  13  a goroutine attempted something impossible, as to start another twice
   2   not a program; the line at fault and why
   3   usage
-  4   memory or a thread was refused
+  4   out of memory, or a thread could not be started
   5   reading or writing failed
   15  the run could not be recorded, or what was recorded isn't a run of the program";
 
@@ -245,8 +274,8 @@ pub(crate) const RACE_USAGE: &str = "gorace race [OPTIONS] < PROGRAM";
 
 pub(crate) const RACE_HELP: &str = "\
 Runs the program as 'gorace run' does, and judges the run as 'gorace check' does;
-'gorace run --help' says what a program is, and what picks are. Behind the report
-stands how the run ended.
+'gorace run --help' says what a program is, and what picks are. After the report
+comes how the run ended.
 
   goprogram 1
   goroutine w
@@ -279,6 +308,6 @@ Statuses:
   13  none, and a goroutine asked what can't be, as to start another a second time
   2   not a program; the line at fault and why
   3   usage, or more events than --plain takes (2,000)
-  4   memory or a thread was refused
+  4   out of memory, or a thread could not be started
   5   reading or writing failed
   15  the run could not be recorded, or what was recorded isn't a run of the program";

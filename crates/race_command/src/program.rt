@@ -12,8 +12,8 @@ use clap::Error;
 use clap::error::ErrorKind;
 use race_records::{Sink, Source};
 use race_tool::{
-    run_certify, run_check, run_draw, run_edges, run_predict, run_race, run_run, run_witness,
-    status,
+    run_certify, run_check, run_draw, run_edges, run_explain, run_predict, run_race, run_run,
+    run_witness, status,
 };
 use std::alloc::Global;
 use std::env::Args;
@@ -25,11 +25,11 @@ use std::thread::Threads;
 
 /// Does what the words ask for, and says on standard error what no report says.
 ///
-/// A check ends with the status that `run_check` answers, a listing of edges with that of
+/// A check ends with the status that `run_check` answers, an explained one with that of `run_explain`, a listing of edges with that of
 /// `run_edges`, a run with that of `run_run`, a judged run with that of `run_race`, a witness with that of
 /// `run_witness`, a drawing with that of `run_draw`, predictions with that of `run_predict`, and the run that
 /// shows one with that of `run_certify`. Help and the version end with 0, or with 5 where they can't be printed. Words that are at fault or aren't text
-/// end with 3, of which a line on standard error tells, and want of memory for them with 4.
+/// end with 3, and a line on standard error says so. If memory for them is refused, the status is 4.
 ///
 /// Several shards and several workers are threads, for which the call waits. So what is promised holds
 /// where it returns, and it returns if its reads, writes and threads do.
@@ -39,7 +39,7 @@ pub fn run<T: AllocGlobal + Print + Eprint + Threads + Wait + Sync, R: Read, W: 
     source: &mut Source<R>,
     sink: &mut Sink<W>,
 ) -> ExitCode
-    // The input is checked, its edges are listed, a race of it is shown, its races are drawn, races of other runs are predicted or one of
+    // The input is checked, its report is explained, its edges are listed, a race of it is shown, its races are drawn, races of other runs are predicted or one of
     // them is shown, it is run, or it is run and judged, or the words ask for none of these, and nothing is read or written.
     ensures words { IfOk args (λ words.
         Ends R.remaining W.contents source.old source.new sink.old sink.new (exit_status result)) }
@@ -51,6 +51,9 @@ pub fn run<T: AllocGlobal + Print + Eprint + Threads + Wait + Sync, R: Read, W: 
 {
     let answer = answer_words(rt, words_of(rt.alloc(), args), source, sink);
     tell(rt, answer);
+    if answer == status::DEVICE {
+        let _ = eprintln!(rt; "gorace: {}", failed_device(source, sink));
+    }
     ExitCode::from(answer)
 }
 
@@ -102,6 +105,7 @@ fn answer_request<T: AllocGlobal + Print + Eprint + Threads + Wait + Sync, R: Re
     match request {
         Ok(asked) => match asked {
             Request::Check(options) => run_check(rt, rt.alloc(), source, sink, &options),
+            Request::Explain => run_explain(rt.alloc(), source, sink),
             Request::Edges => run_edges(rt.alloc(), source, sink),
             Request::Run(options) => run_run(rt, rt.alloc(), source, sink, &options),
             Request::Race(run, check) => run_race(rt, rt.alloc(), source, sink, &run, &check),
@@ -165,6 +169,19 @@ fn refuse_words<R: Eprint>(rt: &R, error: &io::Error) -> u8
 fn tell<R: Eprint>(rt: &R, answer: u8) {
     if let Some(text) = message(answer) {
         let _ = eprintln!(rt; "{text}");
+    }
+}
+
+// Which device failed.
+fn failed_device<R: Read, W: Write>(source: &Source<R>, sink: &Sink<W>) -> &'static str {
+    if sink.failures() > 0 {
+        "writing to standard output failed"
+    } else if source.failures() > 0 {
+        "reading standard input failed"
+    } else if source.reads() > 0 {
+        "reading was given up: 2^32 reads were not enough"
+    } else {
+        "help or the version could not be written"
     }
 }
 

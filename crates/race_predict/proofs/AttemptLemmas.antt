@@ -1,12 +1,10 @@
 -- A run goes on by an event, and ends with two that race.
-use Rattle.std.proofs.Common.{◌≡◌, ◌+◌, ◌<◌, ℕ, Bool, true, IsTrue, IfSome, Option, Some}
+use Rattle.std.proofs.Common.{◌≡◌, ◌+◌, ◌<◌, ℕ, Bool, true, IsTrue, IfSome, Some}
 use Rattle.std.proofs.Common.{List, [], ◌∷◌, ◌++◌, length, take, slice_get, slice_index_or, replicate, sym, ap}
 use Rattle.std.proofs.Common.{◌∙◌, subst, inl, inr, arith}
 use Rattle.std.proofs.lemmas.{List.{length_push, length-replicate, get_or-replicate}, Bool.Decides.nat_tests}
 use Rattle.race_records.specs.declared.{event.{Event.Event, Op.{Op, TheVariants.{Go, Meet}}}, kind.Kind.Kind, trace.TheConstants.MAX_EVENTS}
 use Rattle.race_records.specs.{Declarations.{counts_of, DeclsState}, Events.{TraceState, fits}, Operands.op_is_in_range}
-use Rattle.race_records.specs.{declared.operands.{OpKeyword.OpKeyword, Operand.Operand}, Operands.{says, op_by}}
-use Rattle.race_records.proofs.OperandLaws.{says_again}
 use Rattle.race_model.specs.{Events.{At, partner}, Clocks.participations}
 use Rattle.race_model.specs.Predict.{execution_of, told}
 use Rattle.race_model.proofs.{Indexes.{push_at, append_at_old, slice_get-push}}
@@ -90,9 +88,3 @@ goes_on recorded order k i e p a b attempt here at fit pos own others room decls
 -- a test that the code made by declarations that are these
 pub tested : (decls other : DeclsState) (e : Event) (b : Bool) → b ≡ fits other e → other ≡ decls → b ≡ true → IsTrue (fits decls e)
 tested decls other e b is same passed = subst (λ d. IsTrue (fits d e)) same (sym is ∙ passed)
-
--- what an operation says makes it again
-pub copied : (op : Op) (found : Option Op) (keyword : OpKeyword) (operands items : List Operand) → found ≡ op_by keyword operands → keyword ≡ (says op).0
-    → operands ≡ items → items ≡ (says op).1 → found ≡ Some op
-copied op found keyword operands items is word slice said =
-    is ∙ ap (λ k. op_by k operands) word ∙ ap (op_by (says op).0) (slice ∙ said) ∙ says_again op

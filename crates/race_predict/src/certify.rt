@@ -1,9 +1,9 @@
 //! The certificate of a prediction: a run of the same goroutines, tested event by event.
-ghost use Rattle.std.specs.{Prelude.{◌≡◌, ◌==◌, ℕ, List, length, IfOk, false}, List.list_any};
+ghost use Rattle.std.specs.{Prelude.{◌≡◌, ◌==◌, ℕ, List, length, IfOk, IfSome, false}, List.list_any};
 ghost use Rattle.race_records.specs.declared.event.Event.{Event};
 ghost use Rattle.race_model.specs.{Race.IsRace, Verdict.IsVerdict};
 ghost use Rattle.race_verdict.specs.{Traces.HasVerdict, Verdicts.verdict_of};
-ghost use Rattle.race_predict.specs.{Certified.{IsCertificate, IsRunWithRace}, Fronts.ArePositions};
+ghost use Rattle.race_predict.specs.{Certified.{IsCertificate, IsPredicted, IsRunWithRace}, Fronts.ArePositions};
 
 use crate::attempt::Attempt;
 use crate::fault::PredictFault;
@@ -11,7 +11,7 @@ use crate::positions::{Position, positions_of};
 use crate::prediction::Prediction;
 use race_records::Trace;
 use race_verdict::{Race, Verdict};
-use std::alloc::Allocator;
+use std::alloc::{AllocError, Allocator};
 
 /// A trace that shows the prediction: the same declarations, and the events of another run of the recorded goroutines, at whose end the
 /// two accesses race.
@@ -36,8 +36,34 @@ pub fn certificate<A: Allocator + Copy>(
     Ok(trace)
 }
 
-/// Whether the verdict names a race on the variable, or tells of none because the trace is illegal.
-pub(crate) fn may_race<A: Allocator>(verdict: &Verdict<A>, var: u32) -> bool
+/// The prediction that these recorded events make, if they pass the test of `certificate`. The verdict is that on the recorded trace. Takes
+/// what `certificate` takes.
+pub fn tested<A: Allocator + Copy>(
+    alloc: A,
+    recorded: &Trace<A>,
+    verdict: &Verdict<A>,
+    positions: &[Position],
+    var: u32,
+    order: Vec<u32, A>,
+) -> Result<Option<Prediction<A>>, AllocError>
+    requires verdict { HasVerdict recorded.now (verdict_of verdict.now) }
+    requires positions { ArePositions recorded.now.events (length recorded.now.events) positions.now }
+    ensures found { IfOk result (λ found. IfSome found (IsPredicted recorded.now)) }
+    ensures var { IfOk result (λ found. IfSome found (λ p. p.var ≡ var)) }
+    ensures order { IfOk result (λ found. IfSome found (λ p. p.order ≡ order)) }
+{
+    if may_race(verdict, var) {
+        return Ok(None);
+    }
+    match certify(alloc, recorded, positions, var, order.as_slice()) {
+        Ok(_) => Ok(Some(Prediction { var, order })),
+        Err(PredictFault::OutOfMemory) => Err(AllocError),
+        Err(PredictFault::NotAPrediction) => Ok(None),
+    }
+}
+
+// Whether the verdict names a race on the variable, or tells of none because the trace is illegal.
+fn may_race<A: Allocator>(verdict: &Verdict<A>, var: u32) -> bool
     ensures { result ≡ false → (caps : ℕ → ℕ) (events : List Event) → IsVerdict caps events (verdict_of verdict.now)
         → (i j : ℕ) → ¬ IsRace caps events var i j }
 {
@@ -54,8 +80,8 @@ fn is_raced(races: &[Race], var: u32) -> bool
     races.iter().any(|race| race.var == var)
 }
 
-/// The run of these recorded events, tested event by event.
-pub(crate) fn certify<A: Allocator + Copy>(
+// The run of these recorded events, tested event by event.
+fn certify<A: Allocator + Copy>(
     alloc: A,
     recorded: &Trace<A>,
     positions: &[Position],

@@ -1,31 +1,17 @@
-//! The races of other runs of the same goroutines, from one trace: each with a run that shows it.
+//! What a race of another run of the same goroutines is: a run that shows it, made of the recorded events and tested event by event.
 //!
-//! A search proposes lists of event numbers, and nothing is proved of it but that it returns. One loop tests each of them (`certify`): what
-//! passes is a trace of its own, which a judge takes.
+//! Whoever proposes a list of events, one loop tests it (`certify`): what passes is a trace of its own, which a judge takes.
 #![tactic(auto)]
 
-mod accesses;
 mod attempt;
 mod certify;
-mod closure;
-mod course;
 mod fault;
-mod known;
-mod locksets;
-mod pairs;
 mod parts;
 mod positions;
 mod prediction;
-mod proposal;
-mod scene;
-mod search;
-mod seconds;
-mod shared;
-mod steps;
-mod turned;
-mod wants;
 
-pub use certify::certificate;
+pub use certify::{certificate, tested};
 pub use fault::PredictFault;
-pub use prediction::{Prediction, Predictions};
-pub use search::{predict, predict_on};
+pub use parts::partner;
+pub use positions::{Position, positions_of};
+pub use prediction::Prediction;

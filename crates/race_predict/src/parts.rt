@@ -8,7 +8,7 @@ use race_records::{Event, Op};
 use std::alloc::Allocator;
 
 /// The second participant: the goroutine that a `Go` starts, or the receiver of a `Meet`.
-pub(crate) fn partner(op: &Op) -> Option<u32>
+pub fn partner(op: &Op) -> Option<u32>
     ensures { result ≡ events.partner op.now }
 {
     match op {

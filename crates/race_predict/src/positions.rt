@@ -10,9 +10,11 @@ use std::alloc::{AllocError, Allocator};
 
 /// How many events its goroutine has before an event, and its partner, where there is one.
 #[derive(Clone, Copy)]
-pub(crate) struct Position {
-    pub(crate) own: u32,
-    pub(crate) partners: u32,
+pub struct Position {
+    /// How many events its goroutine has before it.
+    pub own: u32,
+    /// How many events its partner has before it, or 0 where there is none.
+    pub partners: u32,
 }
 
 // The position that these counts tell.
@@ -34,7 +36,7 @@ fn position_by<A: Allocator>(counts: &Vec<u32, A>, event: &Event) -> Position
 }
 
 /// The positions of all events of the trace.
-pub(crate) fn positions_of<A: Allocator + Copy>(
+pub fn positions_of<A: Allocator + Copy>(
     alloc: A,
     trace: &Trace<A>,
 ) -> Result<Vec<Position, A>, AllocError>

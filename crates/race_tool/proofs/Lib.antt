@@ -15,3 +15,4 @@ pub mod StreamedAnswers
 pub mod IntakeLemmas
 pub mod IntakeTurns
 pub mod PredictLemmas
+pub mod ExplainLemmas

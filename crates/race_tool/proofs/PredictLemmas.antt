@@ -1,39 +1,15 @@
--- What a prediction says of its last two events, and that its race can be printed.
+-- A predicted race can be printed.
 use Rattle.std.proofs.Common.{◌≡◌, ℕ, ◌+◌, ◌<◌, ◌≤◌, ◌++◌, inl, inr, List, [], ◌∷◌, All, length, Some, slice_get, get_or, refl, sym, ap, subst}
 use Rattle.std.proofs.Common.{◌∙◌, arith, IsTrue}
-use Rattle.std.proofs.lemmas.{List.Elements.All-push, Option.{slice_get_within, slice_get-get_or}}
+use Rattle.std.proofs.lemmas.Option.{slice_get_within, slice_get-get_or}
 use Rattle.race_records.specs.{declared.{event.{Event.Event, Op.{Op, TheVariants.Read}}, kind.Kind.Kind}, Declarations.{count_of, counts_of}}
 use Rattle.race_records.specs.Events.{TraceState, IsTrace}
-use Rattle.race_model.specs.{Events.accesses, Predict.{finding, told}, Verdict.Race}
-use Rattle.race_verdict.{specs.{declared.races.{Race.{Race as Found}}, Races.race_of}, proofs.RangeLemmas.{range_in_trace, accessed_in_range, accessed_below}}
-use Rattle.race_predict.specs.{declared.prediction.Prediction.Prediction, Certified.{IsCertificate, IsPredicted}}
+use Rattle.race_model.specs.{Events.accesses, Predict.{finding, told}}
+use Rattle.race_verdict.{specs.{declared.races.Race.Race, Races.race_of}, proofs.RangeLemmas.{range_in_trace, accessed_in_range, accessed_below}}
+use Rattle.race_predict.specs.Certified.{IsCertificate, IsPredictedRace}
 use Rattle.race_report.specs.Printable.{IsOf}
-use Rattle.race_tool.specs.Predict.{EndsInPair, IsPredictedRace}
 
 module _ (recorded : TraceState) where
-  -- a prediction has its two events
-  pub has_pair : {A : Type 0} (p : Prediction A) → IsPredicted recorded p → 2 ≤ length p.order.items
-  has_pair p (other, is) = omega (arith, is.prediction.ends_with_race.last_two, is.made.as_many)
-
-  pub have_pairs : {A : Type 0} (found : List (Prediction A)) → All (IsPredicted recorded) found → All (λ p. 2 ≤ length p.order.items) found
-  have_pairs found all = λ i d within. has_pair (get_or found i d) (all i d within)
-
-  pub one_more : (found : List Found) (race : Found) → All (λ (r : Found). IsPredictedRace recorded (race_of r)) found → IsPredictedRace recorded (race_of race)
-      → All (λ (r : Found). IsPredictedRace recorded (race_of r)) (found ++ race ∷ [])
-  one_more found race all is = All-push (λ (r : Found). IsPredictedRace recorded (race_of r)) found race all is
-
-  -- and they are those of its race
-  pub predicted_race : {A : Type 0} (p : Prediction A) (race : Race) (before : ℕ) → race.var ≡ p.var → length p.order.items ≡ before + 2
-      → EndsInPair p.order.items before race.first race.second → IsPredicted recorded p → IsPredictedRace recorded race
-  predicted_race p race before var last_two pair (other, is) = record {
-    order = p.order.items;
-    other = other;
-    certificate = subst (λ x. IsCertificate recorded x p.order.items other) (sym var) is;
-    before = before;
-    last_two = last_two;
-    pair = pair;
-  }
-
   told_is : (a b : Event) → Some a ≡ Some b → a ≡ b
   told_is a b is = cc
 
@@ -63,7 +39,7 @@ module _ (recorded : TraceState) where
         let (e, at, (v, made)) = is.made.each k i stands in
         slice_get_within recorded.events i e at
 
-    pub is_of : (race : Race) → IsPredictedRace recorded race → IsOf recorded race
+    pub is_of : (race : Race) → IsPredictedRace recorded race → IsOf recorded (race_of race)
     is_of race is =
         let within = event_within race.var is.order is.other is.certificate in
         let var = var_declared race.var is.order is.other is.certificate in

@@ -14,3 +14,4 @@ pub mod Witness
 pub mod Intake
 pub mod Draw
 pub mod Predict
+pub mod Explain

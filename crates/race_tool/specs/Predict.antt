@@ -1,11 +1,11 @@
 -- Which reply is right where races of other runs are asked for.
-use Rattle.std.specs.Prelude.{ℕ, ◌≡◌, ◌≤◌, ◌⊎◌, ◌+◌, ◌++◌, ◌&&◌, ◌==◌, if◌then◌else◌, nat_le, Bool, List, [], ◌∷◌, All, codes, length, Option, Some}
-use Rattle.std.specs.{Prelude.slice_get, List.flat_map}
+use Rattle.std.specs.Prelude.{ℕ, ◌≡◌, ◌≤◌, ◌++◌, ◌&&◌, ◌==◌, if◌then◌else◌, nat_le, Bool, List, [], ◌∷◌, All, codes, length, Option, Some}
+use Rattle.std.specs.List.{flat_map}
 use Rattle.race_records.specs.{declared.{source.Source.Source, sink.Sink.Sink}, Events.TraceState}
 use Rattle.race_model.specs.{Legal.IsLegal, Predict.IsPrediction, Verdict.Race}
 use Rattle.race_text.specs.{Fault.{text_fault, trace_causes}, Text.{HasText, IsTextOf, text}}
 use Rattle.race_verdict.specs.{declared.races.{Race.{Race as Found}}, Races.race_of, Traces.{capacities, HasVerdict}, Verdicts.verdict_of}
-use Rattle.race_predict.specs.Certified.{IsCertificate}
+use Rattle.race_predict.specs.Certified.{IsPredictedRace}
 use Rattle.race_report.specs.Report.{counted_line, race_line, report}
 use Rattle.race_tool.specs.{declared.{predict.{PredictOptions.PredictOptions, Predicted.Predicted}, certify.Certified.Certified, reply.Reply.Reply}}
 use Rattle.race_tool.specs.{Finding.{IsTextWhere, status_of_verdict}, Outcome.{Answers, Never}, Reply.{IsBrokenBy, reply_text, reply_status}}
@@ -16,27 +16,11 @@ use Rattle.race_tool.specs.declared.status.TheConstants as status
 abbrev pub are_predict_limits : PredictOptions → Bool
 are_predict_limits o = nat_le 1 o.most && nat_le o.most 65_535
 
--- the recorded events that the order ends with are these two, in one order or the other
-abbrev pub EndsInPair : List ℕ → ℕ → ℕ → ℕ → Type 0
-EndsInPair order before i j =
-    ((slice_get order before ≡ Some i) × (slice_get order (before + 1) ≡ Some j))
-    ⊎ ((slice_get order before ≡ Some j) × (slice_get order (before + 1) ≡ Some i))
-
--- another run that the recorded goroutines could have had, made of the recorded events of this order, ends with the two accesses of the
--- race, and in the recorded one no two accesses of the variable race
-pub record IsPredictedRace (recorded : TraceState) (race : Race) : Type 0 where
-  pub order : List ℕ
-  pub other : TraceState
-  pub certificate : IsCertificate recorded race.var order other
-  pub before : ℕ
-  pub last_two : length order ≡ before + 2
-  pub pair : EndsInPair order before race.first race.second
-
 -- the verdict is right for the trace, and each race that is told beside it is predicted; there are at most so many
 pub record IsPredictedOf {A : Type 0} (most : ℕ) (found : Predicted A) : Type 0 where
   pub verdict : HasVerdict found.trace (verdict_of found.verdict)
   pub legal : IsLegal (capacities found.trace) found.trace.events
-  pub predicted : All (λ (race : Found). IsPredictedRace found.trace (race_of race)) found.races.items
+  pub predicted : All (IsPredictedRace found.trace) found.races.items
   pub not_more : length found.races.items ≤ most
 
 -- the reply is right for the bytes

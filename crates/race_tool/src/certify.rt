@@ -11,8 +11,9 @@ use crate::input::read_text;
 use crate::predict::illegal_event;
 use crate::reply::{Reply, Shown};
 use crate::status;
-use race_predict::{PredictFault, certificate, predict_on};
+use race_predict::{PredictFault, certificate};
 use race_records::{Named, Sink, Source, Trace, WriteFault};
+use race_search::predict_on;
 use race_shards::judge_alone;
 use race_text::{Reader, write_trace};
 use race_verdict::Verdict;
@@ -90,10 +91,7 @@ impl<A: Allocator + Copy> Certifying<'_, A> {
         let Some(Named::Var(var)) = recorded.decls().find(self.name) else {
             return Ok(None);
         };
-        let Ok(found) = predict_on(self.alloc, recorded, verdict, var, self.turned) else {
-            return Err(AllocError);
-        };
-        let Some(prediction) = found else {
+        let Some(prediction) = predict_on(self.alloc, recorded, verdict, var, self.turned)? else {
             return Ok(None);
         };
         match certificate(self.alloc, recorded, verdict, &prediction) {

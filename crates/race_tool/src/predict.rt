@@ -4,7 +4,6 @@ ghost use Rattle.race_records.specs.Events.{TraceState};
 ghost use Rattle.race_text.specs.Text.{IsTextOf};
 ghost use Rattle.race_model.specs.Legal.{IsLegal};
 ghost use Rattle.race_verdict.specs.{Races.race_of, Traces.{capacities, HasVerdict}, Verdicts.verdict_of};
-ghost use Rattle.race_predict.specs.Certified.{IsPredicted};
 ghost use Rattle.race_tool.specs.{Outcome.{Never, Replies}, Reply.IsBrokenBy};
 ghost use Rattle.race_tool.specs.Predict as spec;
 ghost use Rattle.race_tool.specs.declared.status.TheConstants as status;
@@ -15,8 +14,8 @@ use crate::predict_printing::write_predicted;
 use crate::reply::{Reply, Shown};
 use crate::status;
 use race_legal::Illegal;
-use race_predict::{Prediction, predict};
 use race_records::{Sink, Source, Trace, WriteFault};
+use race_search::{Predictions, predict};
 use race_shards::judge_alone;
 use race_text::Reader;
 use race_verdict::{Race, Verdict};
@@ -127,60 +126,16 @@ impl<A: Allocator + Copy> Predicting<A> {
     {
         let most = self.options.most;
         let turned = self.options.turned;
-        match predict(self.alloc, &trace, &verdict, most, turned) {
-            Ok(predictions) => {
-                let races = races_of(self.alloc, predictions.found.as_slice())?;
-                Ok(Predicted {
-                    trace,
-                    verdict,
-                    races,
-                    not_searched: predictions.not_searched,
-                })
-            }
-            Err(_) => Err(AllocError),
-        }
-    }
-}
-
-// The races of these predictions.
-fn races_of<A: Allocator + Copy>(
-    alloc: A,
-    found: &[Prediction<A>],
-) -> Result<Vec<Race, A>, AllocError>
-    requires { All (λ p. 2 ≤ length p.order.items) found.now }
-    ensures predicted { IfOk result (λ races. (recorded : TraceState) → All (IsPredicted recorded) found.now
-        → All (λ race. spec.IsPredictedRace recorded (race_of race)) races.items) }
-    ensures as_many { IfOk result (λ races. length races.items ≡ length found.now) }
-{
-    let mut races = Vec::new(alloc);
-    for prediction in found {
-        races.push(race_in(prediction))?;
-    }
-    Ok(races)
-}
-
-// The race that is predicted, with the earlier one of its accesses in the recorded trace first.
-fn race_in<A: Allocator>(prediction: &Prediction<A>) -> Race
-    requires { 2 ≤ length prediction.now.order.items }
-    ensures { (recorded : TraceState) → IsPredicted recorded prediction.now → spec.IsPredictedRace recorded (race_of result) }
-{
-    let order = prediction.order.as_slice();
-    let before = order.len() - 2;
-    let i = order[before];
-    let j = order[before + 1];
-    let var = prediction.var;
-    if i <= j {
-        Race {
-            var,
-            first: i,
-            second: j,
-        }
-    } else {
-        Race {
-            var,
-            first: j,
-            second: i,
-        }
+        let Predictions {
+            found,
+            not_searched,
+        } = predict(self.alloc, &trace, &verdict, most, turned)?;
+        Ok(Predicted {
+            trace,
+            verdict,
+            races: found,
+            not_searched,
+        })
     }
 }
 

@@ -85,15 +85,15 @@ races: 3
 	want := `pairs of places: 2
      2  read at a.go:9, write at a.go:3
      1  read at a.go:4, write at a.go:5
-g1's write of x: behind lock of mu at a.go:2
-main's read of x: without a lock, behind go of g2 at a.go:6
-g1's read of y: without a lock, behind unlock of mu at a.go:4
+g1's write of x: after lock of mu at a.go:2
+main's read of x: without a lock, after go of g2 at a.go:6
+g1's read of y: without a lock, after unlock of mu at a.go:4
 g2's write of y: without a lock
 g1 was started by main at a.go:1
 g1 was started by main at a.go:2
 g2 was started by g1 at a.go:6
 gorec: not recorded is what these calls do with what their arguments point at: flag.Var (2 places)
-gorec: the trace is cut off behind 21 events: more than 65,535 variables, at a.go:7
+gorec: the trace is cut off after 21 events: more than 65,535 variables, at a.go:7
 `
 	if b.String() != want {
 		t.Errorf("got\n%s", b.String())

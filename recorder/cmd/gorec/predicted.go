@@ -83,7 +83,7 @@ func (j *judging) tellDoubts() {
 		fmt.Fprintf(j.c.out, "gorec: no race of another order was searched for%s, since %s\n", of, reason)
 	}
 	if len(j.o.predicted) > 0 && (len(j.t.Missed) > 0 || j.o.summary.Losses() != "") {
-		fmt.Fprintln(j.c.out, "gorec: a prediction may be false, by what isn't recorded and a goroutine goes by")
+		fmt.Fprintln(j.c.out, "gorec: a prediction may be false: the program may depend on something that isn't in the trace")
 	}
 }
 

@@ -30,7 +30,7 @@ predicted: 2
 	want := `predicted race on x: write by g1 at a.go:3 (event 5), read by g2 at a.go:9 (event 8)
 in another order: g1 stops before event 5, g2 goes on to event 8
 g1's write of x: without a lock
-g2's read of x for a change: without a lock, behind unlock of mu at a.go:8
+g2's read of x for a change: without a lock, after unlock of mu at a.go:8
 g2 was started by main at a.go:6
 ==================
 Write by g2:
@@ -81,7 +81,7 @@ func TestJudgedBy(t *testing.T) {
 // TestTellDoubts: what no other order was looked for in is told, and that a prediction may be false where something
 // isn't recorded.
 func TestTellDoubts(t *testing.T) {
-	const doubt = "gorec: a prediction may be false, by what isn't recorded and a goroutine goes by\n"
+	const doubt = "gorec: a prediction may be false: the program may depend on something that isn't in the trace\n"
 	for _, c := range []struct {
 		unpredicted map[string]int
 		segments    int

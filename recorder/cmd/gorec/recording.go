@@ -29,7 +29,7 @@ type recording struct {
 
 func (r *recording) define(flags *flag.FlagSet) {
 	r.building.define(flags)
-	flags.StringVar(&r.out, "o", "", "keep the trace in this `file`; of several packages, those with races in this folder")
+	flags.StringVar(&r.out, "o", "", "keep the trace in this `file` or folder; of several packages, those that aren't clean, in this folder")
 	flags.StringVar(&r.log, "log", "", "keep the log, of up to 671 MB, in this `file`; else it is a temporary one, in $TMPDIR or /tmp")
 	flags.StringVar(&r.judge, "gorace", "", "the `command` that judges: a file, or words between blanks")
 	flags.StringVar(&r.seed, "seed", "", "a `number` up to 4,294,967,295, which sets where goroutines yield; 0: nowhere")

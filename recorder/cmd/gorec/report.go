@@ -162,7 +162,7 @@ func tell(w io.Writer, s *trace.Summary, missed map[string]int) {
 		fmt.Fprintln(w, "gorec: "+line)
 	}
 	if s.Cut != "" {
-		fmt.Fprintf(w, "gorec: the trace is cut off behind %d events: %s\n", s.Events, s.Cut)
+		fmt.Fprintf(w, "gorec: the trace is cut off after %d events: %s\n", s.Events, s.Cut)
 	}
 }
 

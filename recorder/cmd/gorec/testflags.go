@@ -161,7 +161,7 @@ func (p *testParser) takeFlag(word string) error {
 func (p *testParser) takeUnknown(word, name string, hasValue bool) error {
 	wordFollows := !hasValue && len(p.args) > 0 && !strings.HasPrefix(p.args[0], "-")
 	if p.inFront && wordFollows {
-		return &usageError{"test", fmt.Errorf("gorec and go test don't know -%s; a flag of the tests stands behind the packages", name)}
+		return &usageError{"test", fmt.Errorf("gorec and go test don't know -%s; a flag of the tests comes after the packages", name)}
 	}
 	p.passed = append(p.passed, word)
 	if wordFollows {
@@ -195,7 +195,7 @@ func refused(name, why string) error {
 	if why != "" {
 		text += ": " + why
 	}
-	return &usageError{"test", errors.New(text + "; behind -args it goes to the tests")}
+	return &usageError{"test", errors.New(text + "; after -args it goes to the tests")}
 }
 
 // cutFlag is a flag's name, and its value if that stands behind =; "" where it is no flag.

@@ -20,8 +20,8 @@ func TestTestWords(t *testing.T) {
 		{". -v -args -run x -race", ".", "-test.v=true -run x -race"},
 		{"-seed 5 . -seed 7", ".", "-seed 7"}, // gorec's own flags stand in front
 		{"-tags x . -p 2 -json", ".", ""},
-		{". -v -race", "", "refused: test: -race is a flag of go test that gorec doesn't have: gorec looks for races itself; behind -args it goes to the tests (gorec help test)"},
-		{"-none .", "", "refused: test: gorec and go test don't know -none; a flag of the tests stands behind the packages (gorec help test)"},
+		{". -v -race", "", "refused: test: -race is a flag of go test that gorec doesn't have: gorec looks for races itself; after -args it goes to the tests (gorec help test)"},
+		{"-none .", "", "refused: test: gorec and go test don't know -none; a flag of the tests comes after the packages (gorec help test)"},
 		{". -run", "", "refused: test: -run needs a value (gorec help test)"},
 		{". -timeout 5", "", `refused: test: -timeout 5: time: missing unit in duration "5" (gorec help test)`},
 	} {

@@ -19,8 +19,8 @@ var testCommand = command{
 	name:  "test",
 	words: "[flags] [PACKAGES] [flags of go test and of the tests]",
 	about: "runs packages' tests, and has their traces judged",
-	more: `Packages are named as for go test: without any the one of this folder; ./... all below it. Behind
-them stand flags of go test alone, as -run X -v, and those of the tests; behind -args all is for
+	more: `Packages are named as for go test: without any the one of this folder; ./... all below it. After
+them come flags of go test alone, as -run X -v, and those of the tests; after -args all is for
 the tests. Each package has a line: ok, FAIL, RACE or [no test files].
 
 The flags of go test are -` + strings.Join(boolFlags, ", -") + ", and with values\n-" + strings.Join(valueFlags, ", -") + `.
@@ -226,7 +226,7 @@ func (c *testRun) result(w io.Writer, p *instrument.Program, o *outcome, noTests
 	case o.status != 0 && o.status != cutOff:
 		word = "FAIL"
 	case o.summary.Cut != "":
-		more = fmt.Sprintf("\t[cut off behind %d events]", o.summary.Events)
+		more = fmt.Sprintf("\t[cut off after %d events]", o.summary.Events)
 	case noTests:
 		more = "\t[no tests to run]"
 	}

@@ -26,24 +26,34 @@ const keptTraces = 10
 // createTrace makes the file before the run, which may be long. Without -o it is one in the
 // user's cache folder, or, where there is none, a temporary one.
 func (s *session) createTrace(t *target) (*traceFile, error) {
-	if s.out != "" && t.folder == "" {
+	if s.out != "" && t.folder == "" && !isFolder(s.out) {
 		f, err := os.Create(s.out)
 		return &traceFile{f, s.out, s.out}, err
 	}
 	folder := t.folder
-	if folder == "" {
+	switch {
+	case folder != "":
+	case s.out != "":
+		folder = s.out
+	default:
 		folder = cacheFolder()
 	}
 	if folder != "" {
 		f, err := os.CreateTemp(folder, ".gorec-*")
 		if err == nil {
 			return &traceFile{f, f.Name(), filepath.Join(folder, t.name+".gotrace")}, nil
-		} else if t.folder != "" && s.out != "" {
+		} else if s.out != "" {
 			return nil, err
 		}
 	}
 	f, err := os.Create(t.file + ".gotrace")
 	return &traceFile{f, t.file + ".gotrace", ""}, err
+}
+
+// isFolder says whether a folder has this path.
+func isFolder(path string) bool {
+	st, err := os.Stat(path)
+	return err == nil && st.IsDir()
 }
 
 // cacheFolder is that of the traces, or "" where there can't be one.

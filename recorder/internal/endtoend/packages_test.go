@@ -118,7 +118,7 @@ func TestExplained(t *testing.T) {
 	out, _, _ := runService(t, []string{"XDG_CACHE_HOME=" + cache}, "test", "-gorace", judge, "./store")
 	kept := filepath.Join(cache, "gorec", "example.com_service_store.test.gotrace")
 	for _, want := range []string{
-		"'s write of Store_sold: without a lock, behind unlock of Account_mu at bank/bank.go:16\n",
+		"'s write of Store_sold: without a lock, after unlock of Account_mu at bank/bank.go:16\n",
 		"\ngorec: to see why: " + judge + " draw Store_sold < " + kept + "\n",
 	} {
 		if !strings.Contains(out, want) {
@@ -134,15 +134,23 @@ func TestExplained(t *testing.T) {
 	}
 }
 
-// TestTracesOfSeveral: of several packages those with races have their traces in the folder of
-// -o.
+// TestTracesOfSeveral: of several packages those that aren't clean have their traces in the
+// folder of -o, as the help says.
 func TestTracesOfSeveral(t *testing.T) {
 	t.Parallel()
 	folder := filepath.Join(t.TempDir(), "traces")
-	_, errs, status := runService(t, nil, "test", "-o", folder, "-gorace", finder(t, "Store_sold"), "./bank", "./store")
+	_, errs, status := runService(t, nil, "test", "-o", folder, "-gorace", finder(t, "Store_sold"), "./bank", "./store", "./wrong")
 	files, _ := filepath.Glob(filepath.Join(folder, "*"))
-	if status != 66 || len(files) != 1 || filepath.Base(files[0]) != "example.com_service_store.test.gotrace" {
+	for i, path := range files {
+		files[i] = filepath.Base(path)
+	}
+	want := "example.com_service_store.test.gotrace example.com_service_wrong.test.gotrace"
+	if status != 66 || strings.Join(files, " ") != want {
 		t.Errorf("status %d, %v\n%s", status, files, errs)
+	}
+	const help = "of several packages, those that aren't clean, in this folder\n"
+	if out, errs, _ := runTool(t, "help", "test"); !strings.Contains(out, help) {
+		t.Errorf("%s%s", out, errs)
 	}
 }
 

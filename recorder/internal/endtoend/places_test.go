@@ -67,6 +67,12 @@ func TestPlaces(t *testing.T) {
 	if got := filesOf(t, gopath+"/src/y", "GO111MODULE=off", "GOPATH="+gopath); got != "../x/util/main.go main.go" {
 		t.Errorf("GOPATH mode: %s", got)
 	}
+	writeFiles(t, gopath, map[string]string{
+		"src/z/go.mod": "module z/v2\n", "src/z/main/main.go": main("z/v2/util"), "src/z/util/main.go": util,
+	})
+	if got := filesOf(t, gopath+"/src/z/main", "GO111MODULE=off", "GOPATH="+gopath); got != "../util/main.go main.go" {
+		t.Errorf("GOPATH mode, of a second version: %s", got)
+	}
 
 	work := t.TempDir()
 	writeFiles(t, work, map[string]string{

@@ -128,8 +128,8 @@ func TestRunPredict(t *testing.T) {
 	wanted := regexp.MustCompile(`(?s)\nclean: \d+ events, \d+ accesses
 predicted race on seen: write by (g\d) at mapput/main.go:12 \(event (\d+)\), read by (g\d) at mapput/main.go:18 \(event (\d+)\)
 in another order: (g\d) stops before event (\d+), (g\d) goes on to event (\d+)
-g\d's write of seen: without a lock, behind its start at side/side.go:14
-g\d's read of seen for a change: without a lock, behind receive from sem at mapput/main.go:17
+g\d's write of seen: without a lock, after its start at side/side.go:14
+g\d's read of seen for a change: without a lock, after receive from sem at mapput/main.go:17
 g\d was started by main at side/side.go:14
 .*
 Write by g\d:
@@ -186,7 +186,7 @@ func TestPredictFlag(t *testing.T) {
 		{[]string{"-predict", "-o", trace, "./beforelock"}, 66, `(?s)^clean: \d+ events, 0 accesses
 predicted race on total: write by g1 at beforelock/main.go:\d+ \(event \d+\), write by g2 at beforelock/main.go:\d+ \(event \d+\)
 in another order: g1 stops before event \d+, g2 goes on to event \d+
-g1's write of total: without a lock, behind its start at .*
+g1's write of total: without a lock, after its start at .*
 ==================
 predicted: 1
 gorec: to see the other order: \S+ predict total < \S+ \| \S+ draw total

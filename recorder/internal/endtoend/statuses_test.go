@@ -18,8 +18,8 @@ func TestStatuses(t *testing.T) {
 		status int
 		told   string
 	}{
-		{clean, []string{"run", "./cut"}, 20, "gorec: the trace is cut off behind "},
-		{racing, []string{"run", "./cut"}, 66, "gorec: the trace is cut off behind "},
+		{clean, []string{"run", "./cut"}, 20, "gorec: the trace is cut off after "},
+		{racing, []string{"run", "./cut"}, 66, "gorec: the trace is cut off after "},
 		{clean, []string{"run", "./fails"}, 21, "gorec: the program ended with exit status 1\n"},
 		{racing, []string{"run", "./fails", "racing"}, 66, "gorec: the program ended with exit status 1\n"},
 		{illegal, []string{"run", "./fails"}, 1, "gorec: the program ended with exit status 1\n"},

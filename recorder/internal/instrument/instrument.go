@@ -83,7 +83,7 @@ func Packages(set *load.Set, base, dir string, flags []string) (*Copy, error) {
 	}
 	if t.loose > 0 {
 		t.Notes = append(t.Notes, fmt.Sprintf("%d calls in the keys and values of maps with keys of interface types, "+
-			"or in arguments, come behind the record of the use that they stand in", t.loose))
+			"or in arguments, come after the record of the use that they are part of", t.loose))
 	}
 	for _, p := range set.Programs {
 		t.Programs = append(t.Programs, t.program(p))
@@ -149,6 +149,9 @@ func (t *tree) add(p *load.Package) error {
 	}
 	to := filepath.Join(t.Dir, "src", filepath.FromSlash(path))
 	if err := copyFiles(p, to); err != nil {
+		return err
+	}
+	if err := copyModules(p, to); err != nil {
 		return err
 	}
 	if !p.Recorded() {
@@ -261,6 +264,26 @@ func copyFiles(p *load.Package, to string) error {
 		if err := writeFile(filepath.Join(to, name), b); err != nil {
 			return err
 		}
+	}
+	return nil
+}
+
+// copyModules copies the go.mod of a package outside of modules, and of the folders above it. By
+// these the command go finds x where x/v2 is imported.
+func copyModules(p *load.Package, to string) error {
+	if p.Module != nil || p.ImportPath == commandLine {
+		return nil
+	}
+	from := p.Dir
+	for elements := strings.Count(p.ImportPath, "/"); elements >= 0; elements-- {
+		b, err := os.ReadFile(filepath.Join(from, "go.mod"))
+		if err == nil {
+			err = os.WriteFile(filepath.Join(to, "go.mod"), b, 0o644)
+		}
+		if err != nil && !errors.Is(err, fs.ErrNotExist) {
+			return err
+		}
+		from, to = filepath.Dir(from), filepath.Dir(to)
 	}
 	return nil
 }

@@ -156,9 +156,12 @@ func (r *rewriter) libraryCall(e *ast.CallExpr, sel *ast.SelectorExpr, f *types.
 	case full == "runtime/pprof.Do" || full == "runtime/pprof.SetGoroutineLabels":
 		r.refuse(e, full+": the recorder keeps goroutines by their labels", "leave the labels out of the run that is recorded")
 		r.values(e.Args)
-	case f.Pkg().Path() == "sync" && !hasReceiver(f) && f.Name() != "NewCond":
-		r.refuse(e, full+" isn't recorded, and what it orders would be told as races", "use a sync.Once")
+	case full == "sync.OnceFunc" || full == "sync.OnceValue" || full == "sync.OnceValues":
+		s := r.site(e, "once")
+		r.keepUseOf(sel, "NewCond") // since what is generic can't be kept
+		r.replace(sel.Pos(), sel.End(), "gorec."+f.Name())
 		r.values(e.Args)
+		r.replace(e.Rparen, e.Rparen+1, r.comma(e)+s+")")
 	default:
 		return r.tabledCall(e, sel, f)
 	}
@@ -213,10 +216,13 @@ func (r *rewriter) wrapArgument(a ast.Expr, call, site string) {
 }
 
 // keepUse keeps an import used.
-func (r *rewriter) keepUse(sel *ast.SelectorExpr) {
+func (r *rewriter) keepUse(sel *ast.SelectorExpr) { r.keepUseOf(sel, sel.Sel.Name) }
+
+// keepUseOf keeps an import used by a function of this name.
+func (r *rewriter) keepUseOf(sel *ast.SelectorExpr, function string) {
 	if sel.X == ast.Expr(sel.Sel) { // imported with a dot
-		r.keep[sel.Sel.Name] = true
+		r.keep[function] = true
 	} else if id, ok := sel.X.(*ast.Ident); ok {
-		r.keep[id.Name+"."+sel.Sel.Name] = true
+		r.keep[id.Name+"."+function] = true
 	}
 }

@@ -206,11 +206,15 @@ func (r *rewriter) looksInto(e *ast.CallExpr, f *types.Func, i int) (call string
 		call = "Shown"
 	case encodeFunctions[full]:
 		call = "Encoded"
-	case missingPackages[f.Pkg().Path()] && wholeCalls[full] == "" && receiverType(f) != "reflect.Value":
+	case missingPackages[f.Pkg().Path()] && wholeCalls[full] == "" && receiverType(f) != "reflect.Value" && !onlyKeeps(f):
 		return "", false
 	}
 	return call, true
 }
+
+// onlyKeeps reports whether a function makes something of its arguments whose methods use them, as
+// json.NewDecoder does.
+func onlyKeeps(f *types.Func) bool { return !hasReceiver(f) && strings.HasPrefix(f.Name(), "New") }
 
 // streamCall is the recorder's function for a Reader or a Writer.
 func streamCall(in bool) string {

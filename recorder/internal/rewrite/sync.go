@@ -12,7 +12,7 @@ var syncTypes = map[string]struct{ use, methods string }{
 	"sync.RWMutex":        {"RWMutex", "Lock Unlock TryLock RLock RUnlock TryRLock RLocker"},
 	"sync.Locker":         {"Locker", "Lock Unlock"},
 	"sync.Once":           {"Once", "Do"},
-	"sync.WaitGroup":      {"WaitGroup", "Add Done Wait"},
+	"sync.WaitGroup":      {"WaitGroup", "Add Done Wait Go"},
 	"sync.Cond":           {"Cond", "Wait Signal Broadcast"},
 	"sync.Pool":           {"Pool", "Get Put"},
 	"sync.Map":            {"SyncMap", "Load Store LoadOrStore LoadAndDelete Delete Range"},
@@ -129,8 +129,13 @@ var atomicKinds = []struct{ begin, call string }{
 
 // functionValue changes a function of another package that isn't called.
 func (r *rewriter) functionValue(e ast.Expr, f *types.Func) {
-	if f.Pkg() != nil && f.Pkg().Path() == "sync/atomic" {
+	switch {
+	case f.Pkg() == nil:
+	case f.Pkg().Path() == "sync/atomic":
 		r.atomicFunction(e, f, "")
+	case f.Pkg().Path() == "sync" && f.Name() != "NewCond":
+		r.refuse(e, f.FullName()+" isn't recorded here, and what it orders would be told as races",
+			"call it without types in brackets, or use a sync.Once")
 	}
 }
 

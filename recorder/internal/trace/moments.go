@@ -33,11 +33,11 @@ func (m Moment) String() string {
 	case n == 0 && m.Last.What == "":
 		return "without a lock"
 	case n == 0:
-		return "without a lock, behind " + m.Last.String()
+		return "without a lock, after " + m.Last.String()
 	case m.Locks[n-1] == m.Last:
-		return "behind " + strings.Join(held, ", ")
+		return "after " + strings.Join(held, ", ")
 	}
-	return "behind " + strings.Join(held, ", ") + ", last " + m.Last.String()
+	return "after " + strings.Join(held, ", ") + ", last " + m.Last.String()
 }
 
 // holding is a lock that a goroutine holds.
@@ -54,6 +54,8 @@ type follower struct {
 	last    map[uint32]Deed
 	wanted  map[int]bool
 	moments map[int]Moment
+	taken   names             // those of the trace, and of what it leaves out
+	left    map[uint32]string // what is left out, by object
 }
 
 // Moments are those of the wanted events, which are counted from 1, of the trace that Write
@@ -63,7 +65,7 @@ func Moments(records []wire.Record, table sites.Table, o Options, wanted map[int
 }
 
 func momentsOf(s *stretch, table sites.Table, o Options, wanted map[int]bool) (map[int]Moment, error) {
-	f := &follower{held: map[uint32][]holding{}, last: map[uint32]Deed{}, wanted: wanted, moments: map[int]Moment{}}
+	f := &follower{held: map[uint32][]holding{}, last: map[uint32]Deed{}, wanted: wanted, moments: map[int]Moment{}, left: map[uint32]string{}}
 	d := declare(named(s, o), table)
 	told := 0
 	d.printed = func(p *printer, i int) {
@@ -99,7 +101,27 @@ func (f *follower) name(id uint32) string {
 	if o := &f.objects[id]; o.name != "" && o.op != wire.Release {
 		return o.name
 	}
-	return f.table[f.objects[id].site].Name
+	site := f.table[f.objects[id].site].Name
+	if f.objects[id].op == wire.Release {
+		return site
+	}
+	if f.left[id] == "" {
+		f.left[id] = f.free().take(site)
+	}
+	return f.left[id]
+}
+
+// free are the names that the trace doesn't take. Two objects that it leaves out have two names.
+func (f *follower) free() names {
+	if f.taken == nil {
+		f.taken = names{}
+		for i := range f.objects {
+			if name := f.objects[i].name; name != "" {
+				f.taken[name]++
+			}
+		}
+	}
+	return f.taken
 }
 
 // deeds say what a record is of a goroutine's, in front of the name of the object.

@@ -64,18 +64,48 @@ func TestMoments(t *testing.T) {
 		t.Fatal(err)
 	}
 	for i, want := range []string{
-		"without a lock, behind its start at .go:1",
-		"behind rlock of mu at mu.go:1",
-		"behind rlock of mu at mu.go:1, lock of own at own.go:1",
-		"behind rlock of mu at mu.go:1, last receive from c at c.go:2",
-		"without a lock, behind what it comes after, of group at group.go:2",
-		"without a lock, behind what others come after, of group at group.go:1",
+		"without a lock, after its start at .go:1",
+		"after rlock of mu at mu.go:1",
+		"after rlock of mu at mu.go:1, lock of own at own.go:1",
+		"after rlock of mu at mu.go:1, last receive from c at c.go:2",
+		"without a lock, after what it comes after, of group at group.go:2",
+		"without a lock, after what others come after, of group at group.go:1",
 	} {
 		if i >= len(accesses) {
 			t.Fatalf("%d accesses\n%s", len(accesses), b.String())
 		}
 		if got := moments[accesses[i]].String(); got != want {
 			t.Errorf("access %c: %s, not %s", 'A'+i, got, want)
+		}
+	}
+}
+
+// TestMomentsNameLocksApart: two locks of one name that the trace leaves out, since each is one goroutine's, have two names.
+func TestMomentsNameLocksApart(t *testing.T) {
+	table := sites.Table{{Place: "-"}, {Name: "x", Place: "a.go:1"}, {Name: "mu", Place: "a.go:2"}, {Place: "a.go:3"}}
+	const x, mu, start = 1, 2, 3
+	records := []wire.Record{
+		{Op: wire.Go, Other: 1, Site: start},
+		{Op: wire.Go, Other: 2, Site: start},
+		{Op: wire.DeclareVar, Object: 1, Site: x},
+		{Op: wire.DeclareLock, Object: 2, Site: mu},
+		{Op: wire.DeclareLock, Object: 3, Site: mu},
+		{Op: wire.Lock, Object: 2, Goroutine: 1, Site: mu},
+		{Op: wire.Write, Object: 1, Goroutine: 1, Site: x, Value: 1},
+		{Op: wire.Lock, Object: 3, Goroutine: 2, Site: mu},
+		{Op: wire.Write, Object: 1, Goroutine: 2, Site: x, Value: 2},
+	}
+	var b strings.Builder
+	if _, err := Write(records, table, Options{Version: 1}, &b); err != nil {
+		t.Fatal(err)
+	}
+	moments, err := Moments(records, table, Options{Version: 1}, map[int]bool{3: true, 4: true})
+	if err != nil {
+		t.Fatal(err)
+	}
+	for event, want := range map[int]string{3: "after lock of mu at a.go:2", 4: "after lock of mu_2 at a.go:2"} {
+		if got := moments[event].String(); got != want {
+			t.Errorf("event %d: %s, not %s\n%s", event, got, want, b.String())
 		}
 	}
 }

@@ -1,0 +1,223 @@
+//! Why an event on a channel breaks its rule, and which case of a select is ready.
+
+use crate::illegal::{put_later, put_since};
+use crate::names::{name_of, who_at};
+use crate::past::{Deed, count_before, front, last_before, waiting};
+use crate::put::{put, put_at, put_number_in};
+use crate::rule::value_of;
+use race_legal::Rule;
+use race_records::{Case, Dir, Kind, Named, Op, Trace};
+use std::alloc::{AllocError, Allocator};
+
+/// Why a send, a receive, a meet or a close breaks the rule.
+pub(crate) fn put_channel_rule<A: Allocator, B: Allocator>(
+    out: &mut Vec<u8, A>,
+    trace: &Trace<B>,
+    at: u32,
+    op: &Op,
+    rule: Rule,
+) -> Result<(), AllocError> {
+    let Some((what, chan)) = on_channel(op) else {
+        return Ok(());
+    };
+    put(out, &[what])?;
+    put(out, &[name_of(trace, Named::Chan(chan))])?;
+    match rule {
+        Rule::WrongForm => put_wrong_form(out, trace, chan),
+        Rule::SendOnClosed | Rule::CloseOfClosed => {
+            put(out, &[", which is closed"])?;
+            put_since(out, trace, at, Deed::Closes(chan), " closed it")
+        }
+        Rule::BufferFull => {
+            put_number_in(
+                out,
+                ", in whose buffer ",
+                u64::from(waiting(trace, at, chan)),
+                " values wait",
+            )?;
+            put_number_in(out, ", and its capacity is ", capacity(trace, chan), "")
+        }
+        Rule::BufferEmpty => put_empty(out, trace, at, chan),
+        Rule::WrongValue => put_wrong_value(out, trace, at, op, chan),
+        Rule::NotClosed => {
+            put(
+                out,
+                &[", which is open: no event before this one closes it"],
+            )?;
+            put_later(out, trace, at, Deed::Closes(chan), " does")
+        }
+        Rule::NotDrained => {
+            put_number_in(
+                out,
+                ", in whose buffer ",
+                u64::from(waiting(trace, at, chan)),
+                " values wait",
+            )?;
+            put_front(out, trace, at, chan)
+        }
+        _ => Ok(()),
+    }
+}
+
+// What the operation does on which channel.
+fn on_channel(op: &Op) -> Option<(&'static str, u32)> {
+    match op {
+        Op::Send(chan, _) => Some(("send on ", *chan)),
+        Op::Recv(chan, _) => Some(("recv from ", *chan)),
+        Op::Meet(_, chan, _) => Some(("meet on ", *chan)),
+        Op::RecvClosed(chan) => Some(("recvclosed from ", *chan)),
+        Op::Close(chan) => Some(("close of ", *chan)),
+        _ => None,
+    }
+}
+
+fn capacity<A: Allocator>(trace: &Trace<A>, chan: u32) -> u64 {
+    if chan < trace.decls().count(Kind::Chan) {
+        u64::from(trace.decls().capacity(chan))
+    } else {
+        0
+    }
+}
+
+fn put_wrong_form<A: Allocator, B: Allocator>(
+    out: &mut Vec<u8, A>,
+    trace: &Trace<B>,
+    chan: u32,
+) -> Result<(), AllocError> {
+    let capacity = capacity(trace, chan);
+    put_number_in(out, ", whose capacity is ", capacity, ": ")?;
+    put(
+        out,
+        &[if capacity == 0 {
+            "without a buffer a send and its receive are one event, a meet"
+        } else {
+            "with a buffer a send and its receive are two events, and there are no meets"
+        }],
+    )
+}
+
+fn put_empty<A: Allocator, B: Allocator>(
+    out: &mut Vec<u8, A>,
+    trace: &Trace<B>,
+    at: u32,
+    chan: u32,
+) -> Result<(), AllocError> {
+    let sent = count_before(trace, at, Deed::Sends(chan));
+    put_number_in(
+        out,
+        ", in whose buffer no value waits: ",
+        u64::from(sent),
+        " sent before, ",
+    )?;
+    let received = count_before(trace, at, Deed::Receives(chan));
+    put_number_in(out, "", u64::from(received), " received")?;
+    if let Some(close) = last_before(trace, at, Deed::Closes(chan)) {
+        return put_at(
+            out,
+            trace,
+            "; ",
+            close,
+            " closed it, so this may be a recvclosed",
+        );
+    }
+    put_later(out, trace, at, Deed::Sends(chan), " sends")
+}
+
+fn put_wrong_value<A: Allocator, B: Allocator>(
+    out: &mut Vec<u8, A>,
+    trace: &Trace<B>,
+    at: u32,
+    op: &Op,
+    chan: u32,
+) -> Result<(), AllocError> {
+    if let Op::Recv(_, value) = op {
+        put_number_in(out, " finds ", *value, "")?;
+    }
+    put_front(out, trace, at, chan)
+}
+
+// Which value waits longest, and who sent it.
+fn put_front<A: Allocator, B: Allocator>(
+    out: &mut Vec<u8, A>,
+    trace: &Trace<B>,
+    at: u32,
+    chan: u32,
+) -> Result<(), AllocError> {
+    match front(trace, at, chan) {
+        Some(send) => {
+            put_number_in(
+                out,
+                "; the value that waits longest is ",
+                value_of(trace, send),
+                ", sent by ",
+            )?;
+            put_at(out, trace, "", send, ", by ")?;
+            put(out, &[who_at(trace, send)])
+        }
+        None => Ok(()),
+    }
+}
+
+/// Why a default can't have been taken: which case is ready.
+pub(crate) fn put_ready<A: Allocator, B: Allocator>(
+    out: &mut Vec<u8, A>,
+    trace: &Trace<B>,
+    at: u32,
+    op: &Op,
+) -> Result<(), AllocError> {
+    let Op::Default(cases) = op else {
+        return Ok(());
+    };
+    for k in 0..cases.len() {
+        let case = cases.get(k);
+        if is_ready(trace, at, case) {
+            return put_ready_case(out, trace, at, case);
+        }
+    }
+    Ok(())
+}
+
+fn is_ready<A: Allocator>(trace: &Trace<A>, at: u32, case: Case) -> bool {
+    let Some(chan) = case.chan else {
+        return false;
+    };
+    let waiting = u64::from(waiting(trace, at, chan));
+    let is_closed = last_before(trace, at, Deed::Closes(chan)).is_some();
+    match case.dir {
+        Dir::Send => is_closed || waiting < capacity(trace, chan),
+        Dir::Recv => is_closed || waiting > 0,
+    }
+}
+
+fn put_ready_case<A: Allocator, B: Allocator>(
+    out: &mut Vec<u8, A>,
+    trace: &Trace<B>,
+    at: u32,
+    case: Case,
+) -> Result<(), AllocError> {
+    let Some(chan) = case.chan else {
+        return Ok(());
+    };
+    let front = match case.dir {
+        Dir::Send => "the case send:",
+        Dir::Recv => "the case recv:",
+    };
+    put(out, &[front])?;
+    put(
+        out,
+        &[
+            name_of(trace, Named::Chan(chan)),
+            " is ready, so no default is taken: ",
+        ],
+    )?;
+    if let Some(close) = last_before(trace, at, Deed::Closes(chan)) {
+        return put_at(out, trace, "", close, " closed the channel");
+    }
+    put_number_in(
+        out,
+        "in its buffer ",
+        u64::from(waiting(trace, at, chan)),
+        " values wait",
+    )?;
+    put_number_in(out, ", and its capacity is ", capacity(trace, chan), "")
+}

@@ -1,0 +1,210 @@
+//! An event that breaks a rule, with its line, and why it does.
+
+use crate::channel_rule::{put_channel_rule, put_ready};
+use crate::names::{event_at, goroutine, name_of, who_at};
+use crate::past::{Deed, first_after, last_before, runs_before};
+use crate::put::{put, put_at};
+use crate::rule::{put_lock_rule, put_once_rule, put_stale_read};
+use race_legal::{Illegal, Rule};
+use race_records::{Cause, Event, Named, Op, Trace};
+use std::alloc::{AllocError, Allocator};
+
+/// Puts why the event breaks the rule, where the events before it are legal.
+pub(crate) fn put_reason<A: Allocator + Copy, B: Allocator>(
+    out: &mut Vec<u8, A>,
+    trace: &Trace<B>,
+    illegal: Illegal,
+) -> Result<(), AllocError> {
+    let at = illegal.at;
+    let Some(event) = event_at(trace, at) else {
+        return Ok(());
+    };
+    match illegal.rule {
+        Rule::AfterEnd => put_after_end(out, trace, at)?,
+        Rule::NotRunning => put_not_running(out, trace, at, event)?,
+        Rule::AlreadyStarted => put_already_started(out, trace, at, &event.op)?,
+        Rule::MeetsItself => {
+            put(
+                out,
+                &[
+                    who_at(trace, at),
+                    " is the sender and the receiver, and a meet has two goroutines",
+                ],
+            )?
+        }
+        Rule::StaleRead => put_stale_read(out, trace, at, event)?,
+        Rule::Held | Rule::ReadHeld | Rule::NotHeld | Rule::NotReadHeld => {
+            put_lock_rule(out, trace, at, event)?
+        }
+        Rule::OnceAgain | Rule::OnceNotInner | Rule::OnceNotDone | Rule::OnceOpen => {
+            put_once_rule(out, trace, at, event)?
+        }
+        Rule::CaseReady => put_ready(out, trace, at, &event.op)?,
+        Rule::NoFault => put_no_fault(out, trace, at, &event.op)?,
+        _ => put_channel_rule(out, trace, at, &event.op, illegal.rule)?,
+    }
+    put(out, &["\n"])
+}
+
+fn put_after_end<A: Allocator, B: Allocator>(
+    out: &mut Vec<u8, A>,
+    trace: &Trace<B>,
+    at: u32,
+) -> Result<(), AllocError> {
+    match last_before(trace, at, Deed::EndsRun) {
+        None => Ok(()),
+        Some(end) => {
+            put_at(out, trace, "the run is over: ", end, " is ")?;
+            put(out, &[who_at(trace, end), "'s "])?;
+            put(out, &[ending(trace, end), ", which ends it"])
+        }
+    }
+}
+
+fn ending<A: Allocator>(trace: &Trace<A>, at: u32) -> &'static str {
+    match event_at(trace, at) {
+        Some(event) => match event.op {
+            Op::Fault(_) => "fault",
+            _ => "exit",
+        },
+        None => "",
+    }
+}
+
+fn put_not_running<A: Allocator, B: Allocator>(
+    out: &mut Vec<u8, A>,
+    trace: &Trace<B>,
+    at: u32,
+    event: &Event,
+) -> Result<(), AllocError> {
+    if !runs_before(trace, at, event.who) {
+        put(out, &[goroutine(trace, event.who)])?;
+        return put_idle(out, trace, at, event.who);
+    }
+    match event.op {
+        Op::Meet(receiver, _, _) => {
+            put(out, &[goroutine(trace, receiver), ", the receiver,"])?;
+            put_idle(out, trace, at, receiver)
+        }
+        _ => Ok(()),
+    }
+}
+
+// Why a goroutine doesn't run.
+fn put_idle<A: Allocator, B: Allocator>(
+    out: &mut Vec<u8, A>,
+    trace: &Trace<B>,
+    at: u32,
+    goroutine: u32,
+) -> Result<(), AllocError> {
+    put(out, &[" isn't running: "])?;
+    if let Some(exit) = last_before(trace, at, Deed::Exits(goroutine)) {
+        return put_at(out, trace, "", exit, " is its exit");
+    }
+    put(out, &["no event before this one starts it"])?;
+    put_later(out, trace, at, Deed::Starts(goroutine), " does")
+}
+
+/// Puts which event after this one does what is missing before it, if one does.
+pub(crate) fn put_later<A: Allocator, B: Allocator>(
+    out: &mut Vec<u8, A>,
+    trace: &Trace<B>,
+    at: u32,
+    deed: Deed,
+    what: &str,
+) -> Result<(), AllocError> {
+    match first_after(trace, at, deed) {
+        Some(later) => {
+            put_at(out, trace, ", and ", later, what)?;
+            put(out, &[", which comes later"])
+        }
+        None => Ok(()),
+    }
+}
+
+fn put_already_started<A: Allocator, B: Allocator>(
+    out: &mut Vec<u8, A>,
+    trace: &Trace<B>,
+    at: u32,
+    op: &Op,
+) -> Result<(), AllocError> {
+    let Op::Go(started) = op else {
+        return Ok(());
+    };
+    match last_before(trace, at, Deed::Starts(*started)) {
+        Some(start) => {
+            put(out, &[goroutine(trace, *started)])?;
+            put_at(out, trace, " was started by ", start, "")
+        }
+        None => put(out, &["main runs from the start, and no event starts it"]),
+    }
+}
+
+fn put_no_fault<A: Allocator, B: Allocator>(
+    out: &mut Vec<u8, A>,
+    trace: &Trace<B>,
+    at: u32,
+    op: &Op,
+) -> Result<(), AllocError> {
+    let Op::Fault(cause) = op else {
+        return Ok(());
+    };
+    match cause {
+        Cause::SendClosed(chan) => put_open(out, trace, at, *chan),
+        Cause::CloseClosed(chan) => put_open(out, trace, at, *chan),
+        Cause::CloseNil => Ok(()),
+        Cause::UnlockFree(lock) => {
+            put(
+                out,
+                &[
+                    name_of(trace, Named::Lock(*lock)),
+                    " is locked, so its unlock doesn't fail",
+                ],
+            )?;
+            put_since(out, trace, at, Deed::Locks(*lock), " locked it")
+        }
+        Cause::RUnlockFree(lock) => {
+            put(
+                out,
+                &[
+                    name_of(trace, Named::Lock(*lock)),
+                    " is locked for reading, so its runlock doesn't fail",
+                ],
+            )?;
+            put_since(out, trace, at, Deed::ReadLocks(*lock), " locked it")
+        }
+    }
+}
+
+fn put_open<A: Allocator, B: Allocator>(
+    out: &mut Vec<u8, A>,
+    trace: &Trace<B>,
+    at: u32,
+    chan: u32,
+) -> Result<(), AllocError> {
+    put(
+        out,
+        &[
+            name_of(trace, Named::Chan(chan)),
+            " is open, so this doesn't fail: no event before closes it",
+        ],
+    )?;
+    put_later(out, trace, at, Deed::Closes(chan), " does")
+}
+
+/// Puts which event did so last before this one.
+pub(crate) fn put_since<A: Allocator, B: Allocator>(
+    out: &mut Vec<u8, A>,
+    trace: &Trace<B>,
+    at: u32,
+    deed: Deed,
+    what: &str,
+) -> Result<(), AllocError> {
+    match last_before(trace, at, deed) {
+        Some(since) => {
+            put_at(out, trace, ": ", since, what)?;
+            put(out, &[", by ", who_at(trace, since)])
+        }
+        None => Ok(()),
+    }
+}

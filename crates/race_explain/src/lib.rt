@@ -1,0 +1,23 @@
+//! What a report says in one line, in full: the word at fault, the rule with its values, what the two of a race had locked.
+#![tactic(auto)]
+
+mod channel_rule;
+mod clean;
+mod explain;
+mod fault;
+mod field;
+mod header;
+mod illegal;
+mod line;
+mod moment;
+mod names;
+mod operand;
+mod past;
+mod put;
+mod race;
+mod rule;
+mod sentence;
+mod shown;
+mod word;
+
+pub use explain::{explain_fault, explain_trace};

@@ -1,0 +1,50 @@
+//! The names of what an event names, and its line.
+ghost use Rattle.std.specs.Prelude.{◌≡◌};
+ghost use Rattle.race_explain.specs.Shown.{line_of};
+
+use race_records::{Event, Named, Trace};
+use std::alloc::Allocator;
+
+/// The name of what is declared; a number that isn't declared has none.
+pub(crate) fn name_of<A: Allocator>(trace: &Trace<A>, named: Named) -> &str {
+    let decls = trace.decls();
+    if named.number() < decls.count(named.kind()) {
+        decls.name(named)
+    } else {
+        ""
+    }
+}
+
+/// The name of a goroutine.
+pub(crate) fn goroutine<A: Allocator>(trace: &Trace<A>, number: u32) -> &str {
+    name_of(trace, Named::Goroutine(number))
+}
+
+/// The text of a place.
+pub(crate) fn place_of<A: Allocator>(trace: &Trace<A>, place: u32) -> &str {
+    if place < trace.decls().place_count() {
+        trace.decls().place_text(place)
+    } else {
+        ""
+    }
+}
+
+/// The line of an event: after the header and the declarations each has one.
+pub(crate) fn line_of<A: Allocator>(trace: &Trace<A>, at: u32) -> u64
+    ensures { result ≡ line_of trace.now at }
+{
+    trace.decls().len() as u64 + u64::from(at) + 2
+}
+
+/// The event at the index, if there is one.
+pub(crate) fn event_at<A: Allocator>(trace: &Trace<A>, at: u32) -> Option<&Event> {
+    trace.events().get(at as usize)
+}
+
+/// The goroutine whose event is at the index.
+pub(crate) fn who_at<A: Allocator>(trace: &Trace<A>, at: u32) -> &str {
+    match event_at(trace, at) {
+        Some(event) => goroutine(trace, event.who),
+        None => "",
+    }
+}

@@ -1,0 +1,121 @@
+//! What is said of a line as a whole that is at fault.
+
+use crate::field::{fields_of, put_fields};
+use crate::line::put_quoted;
+use crate::put::{put, put_number, put_number_in};
+use crate::word::bad_column;
+use race_text::{cut_at, split_words, word_named};
+use std::alloc::{AllocError, Allocator};
+
+/// What is said of a last line that no newline ends.
+pub(crate) fn put_unended<A: Allocator>(out: &mut Vec<u8, A>, line: u64) -> Result<(), AllocError> {
+    put(
+        out,
+        &["no newline ends the last line: the text may be cut off within it"],
+    )?;
+    if line > 1 {
+        put_number_in(
+            out,
+            "; the lines before it: head -n ",
+            line - 1,
+            " < FILE | gorace check",
+        )?;
+    }
+    Ok(())
+}
+
+/// What is said of a byte that no line may have.
+pub(crate) fn put_bad_byte<A: Allocator>(
+    out: &mut Vec<u8, A>,
+    line: &[u8],
+) -> Result<(), AllocError> {
+    let column = bad_column(line);
+    let byte = match line.get(column) {
+        Some(byte) => *byte,
+        None => return Ok(()),
+    };
+    put_number_in(
+        out,
+        "byte ",
+        column as u64,
+        " of the line, counted from 0, is ",
+    )?;
+    put_number(out, u64::from(byte))?;
+    let what = match byte {
+        0 => ", a zero byte",
+        9 => ", a tab",
+        13 => ", a carriage return, as Windows ends lines: tr -d '\\r' < FILE | gorace explain",
+        _ => if byte < 128 {
+            ""
+        } else {
+            ", of a letter that isn't ASCII"
+        },
+    };
+    put(out, &[what, "; a line has the bytes 32 to 126 alone"])
+}
+
+/// What is said of a first word that begins no line.
+pub(crate) fn put_unknown_word<A: Allocator>(
+    out: &mut Vec<u8, A>,
+    word: &[u8],
+) -> Result<(), AllocError> {
+    if word.is_empty() {
+        return put(
+            out,
+            &["the line is empty or begins with a blank, and no line of a trace does"],
+        );
+    }
+    if word[0] == b'#' || word[0] == b'/' {
+        return put(out, &["a trace has no comments"]);
+    }
+    put_quoted(out, word)?;
+    if word_named(word).is_some() {
+        return put(out, &[" is a word of version 2: its header is gotrace 2"]);
+    }
+    if word == b"gotrace".as_slice() {
+        return put(
+            out,
+            &[" begins a header, and a trace has one alone: are these two traces?"],
+        );
+    }
+    if word == b"select".as_slice() {
+        return put(
+            out,
+            &[" is no event: write what the select did, a send, recv, meet, recvclosed or default"],
+        );
+    }
+    if word == b"body".as_slice() || word == b"do".as_slice() || word == b"enddo".as_slice() {
+        return put(out, &[" is a word of a program, not of a trace"]);
+    }
+    put(out, &[" begins no line of a trace: ", WORDS])
+}
+
+const WORDS: &str =
+    "a declaration begins with goroutine, var, chan, mutex, rwmutex or once, an event with go, exit, read, write, send, recv, meet, recvclosed, close, default, lock, unlock, rlock, runlock, oncebegin, onceend, oncedone or fault, in version 2 with trylock, tryrlock or tryfail too";
+
+/// How many words are wanted, and how many there are.
+pub(crate) fn put_count<A: Allocator>(out: &mut Vec<u8, A>, line: &[u8]) -> Result<(), AllocError> {
+    let first = cut_at(line, b' ').0;
+    let Some(word) = word_named(first) else {
+        return Ok(());
+    };
+    let fields = fields_of(word);
+    put_number_in(out, "wants ", fields.len() as u64, " words after ")?;
+    put_quoted(out, first)?;
+    put(out, &[": "])?;
+    put_fields(out, fields.as_slice())?;
+    let mut words = 0u64;
+    let mut is_blank = false;
+    for word in split_words(line) {
+        words = words.saturating_add(1);
+        is_blank = is_blank || word.is_empty();
+    }
+    put_number_in(out, "; has ", words.saturating_sub(1), "")?;
+    if is_blank {
+        put(
+            out,
+            &[", where a blank at the end or after another begins an empty word"],
+        )?;
+    }
+    Ok(())
+}

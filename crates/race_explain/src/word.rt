@@ -1,0 +1,65 @@
+//! Which word of a line is at fault.
+
+use crate::field::fields_of;
+use race_records::Decls;
+use race_text::{Field, TextCause, Word, cut_at, fields_cause, word_named};
+use std::alloc::Allocator;
+
+/// A word after the first that is at fault, as what it is wanted, and where it begins.
+#[derive(Clone, Copy)]
+pub(crate) struct FaultyWord<'a> {
+    /// What is wanted there.
+    pub(crate) field: Field,
+    /// What is there.
+    pub(crate) word: &'a [u8],
+    /// The column of its first byte, counted from 0.
+    pub(crate) column: usize,
+}
+
+/// The first word after the first one at which the cause holds, if there is one.
+pub(crate) fn faulty_word<'a, A: Allocator>(
+    decls: &Decls<A>,
+    line: &'a [u8],
+    cause: TextCause,
+) -> Option<FaultyWord<'a>> {
+    let (first, mut left) = cut_at(line, b' ');
+    let fields = fields_of(word_named(first)?);
+    for field in fields.as_slice() {
+        let bytes = left?;
+        let (word, others) = cut_at(bytes, b' ');
+        if fields_cause(decls, &[*field], Some(word)) == Some(cause) {
+            return Some(FaultyWord {
+                field: *field,
+                word,
+                column: line.len().saturating_sub(bytes.len()),
+            });
+        }
+        left = others;
+    }
+    None
+}
+
+/// Where the first word too many begins, or the end of the line where there are too few.
+pub(crate) fn count_column(word: Word, line: &[u8]) -> usize {
+    let mut left = cut_at(line, b' ').1;
+    for _ in 0..fields_of(word).len() {
+        let Some(bytes) = left else {
+            return line.len();
+        };
+        left = cut_at(bytes, b' ').1;
+    }
+    match left {
+        None => line.len(),
+        Some(bytes) => line.len().saturating_sub(bytes.len()),
+    }
+}
+
+/// Where the first byte is that no line may have.
+pub(crate) fn bad_column(line: &[u8]) -> usize {
+    for column in 0..line.len() {
+        if !(b' ' <= line[column] && line[column] <= b'~') {
+            return column;
+        }
+    }
+    line.len()
+}

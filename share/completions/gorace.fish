@@ -1,0 +1,45 @@
+# Completions of gorace for fish. Made by docs/make_pages.py from what gorace --help says.
+
+# Whether the command is this one, or by '' whether there is none yet.
+function __gorace_is
+    set -l words (commandline -opc) ''
+    test "$words[2]" = "$argv[1]"
+end
+
+complete -c gorace -f
+complete -c gorace -n '__gorace_is ""; or __gorace_is help' -a check -d 'Reads a trace from standard input and writes its report'
+complete -c gorace -n '__gorace_is ""; or __gorace_is help' -a explain -d 'Reads a trace from standard input and explains its report'
+complete -c gorace -n '__gorace_is ""; or __gorace_is help' -a edges -d 'Reads a trace from standard input and lists what synchronizes in it'
+complete -c gorace -n '__gorace_is ""; or __gorace_is help' -a run -d 'Reads a program from standard input, runs it, and writes the trace'
+complete -c gorace -n '__gorace_is ""; or __gorace_is help' -a race -d 'Reads a program from standard input, runs it, and writes the report of the run'
+complete -c gorace -n '__gorace_is ""; or __gorace_is help' -a witness -d 'Reads a trace from standard input and shows the race on a variable'
+complete -c gorace -n '__gorace_is ""; or __gorace_is help' -a draw -d 'Reads a trace from standard input and draws it'
+complete -c gorace -n '__gorace_is ""; or __gorace_is help' -a predict -d 'Reads a trace from standard input and finds races of other runs'
+complete -c gorace -n '__gorace_is ""; or __gorace_is help' -a help -d 'Print this message or the help of the given subcommand(s)'
+complete -c gorace -n '__gorace_is ""' -s h -l help -d 'Print help'
+complete -c gorace -n '__gorace_is ""' -s V -l version -d 'Print version'
+complete -c gorace -n '__gorace_is check' -l shards -x -d 'How many shards share the variables among them, each past the first on a thread of its own, 1 to 64 [default: 1]'
+complete -c gorace -n '__gorace_is check' -l block -x -d 'How many events several shards are handed at a time, 1 to 65536 [default: 65536]'
+complete -c gorace -n '__gorace_is check' -l plain -d 'Judge with the plain judge, which takes at most 2,000 events'
+complete -c gorace -n '__gorace_is check' -s h -l help -d 'Print help'
+complete -c gorace -n '__gorace_is explain' -s h -l help -d 'Print help'
+complete -c gorace -n '__gorace_is edges' -s h -l help -d 'Print help'
+complete -c gorace -n '__gorace_is run' -l workers -x -d 'How many workers run the goroutines, each past the first a thread of its own, 1 to 16 [default: 1]'
+complete -c gorace -n '__gorace_is run' -l seed -x -d 'What the workers\' picks start from, which say what happens next [default: 0]'
+complete -c gorace -n '__gorace_is run' -l limit -x -d 'How many events the run may have, 1 to 16777216 [default: 16777216]'
+complete -c gorace -n '__gorace_is run' -l picks -x -d 'Numbers with commas between them, which say what happens next, on one thread'
+complete -c gorace -n '__gorace_is run' -s h -l help -d 'Print help'
+complete -c gorace -n '__gorace_is race' -l workers -x -d 'How many workers run the goroutines, each past the first a thread of its own, 1 to 16 [default: 1]'
+complete -c gorace -n '__gorace_is race' -l seed -x -d 'What the workers\' picks start from, which say what happens next [default: 0]'
+complete -c gorace -n '__gorace_is race' -l limit -x -d 'How many events the run may have, 1 to 16777216 [default: 16777216]'
+complete -c gorace -n '__gorace_is race' -l picks -x -d 'Numbers with commas between them, which say what happens next, on one thread'
+complete -c gorace -n '__gorace_is race' -l shards -x -d 'How many shards share the variables among them, each past the first on a thread of its own, 1 to 64 [default: 1]'
+complete -c gorace -n '__gorace_is race' -l block -x -d 'How many events several shards are handed at a time, 1 to 65536 [default: 65536]'
+complete -c gorace -n '__gorace_is race' -l plain -d 'Judge with the plain judge, which takes at most 2,000 events'
+complete -c gorace -n '__gorace_is race' -s h -l help -d 'Print help'
+complete -c gorace -n '__gorace_is witness' -s h -l help -d 'Print help'
+complete -c gorace -n '__gorace_is draw' -l svg -d 'Write an SVG document, which a browser shows'
+complete -c gorace -n '__gorace_is draw' -s h -l help -d 'Print help'
+complete -c gorace -n '__gorace_is predict' -l turned -d 'Look for orders of locks and messages other than the recorded one, too'
+complete -c gorace -n '__gorace_is predict' -l most -x -d 'How many predicted races are reported at most, 1 to 65535 [default: 64]'
+complete -c gorace -n '__gorace_is predict' -s h -l help -d 'Print help'

@@ -8,17 +8,17 @@ use Rattle.race_records.specs.declared.event.Op.TheVariants.{RecvClosed, Close, 
 use Rattle.race_records.specs.declared.event.Op.TheVariants.{TryRLock, OnceEnd, OnceDone}
 use Rattle.race_model.specs.Events.{is_access, partner, gives, takes_part, count, sends, receives, closes, locks}
 use Rattle.race_model.specs.{Events.{unlocks, runlocks, once_ends}, Order.{Begin, SynchronizedInside, IsSource}}
-use Rattle.race_model.specs.{Order.Reaches, Clocks.{participations, CountsBegins, owning, CountsSeen, CountsFrom}}
+use Rattle.race_model.specs.{Order.Reaches, Known.SeenBy, Clocks.{participations, CountsBegins, owning, SeenFrom, CountsSeen, CountsFrom}}
 use Rattle.race_model.proofs.ClockSteps.{Handed, CountsAt, counts_seen_from, counts_before, counts_at_begin}
 use Rattle.race_model.proofs.{ClockSteps.{counts_alone, counts_pair, counts_other}, Reaching.who_takes_part}
-use Rattle.race_model.proofs.{ClockLemmas.{one_if, participations_push, counts_like, max_within}, SourceSteps.from_none}
+use Rattle.race_model.proofs.{ClockLemmas.{one_if, participations_push, counts_like, counts_up, max_within}, SourceSteps.from_none}
 use Rattle.race_clock.specs.{ClockState.{knows, joined, with_count}, ClocksState.{ThreadClockState, ClocksState, no_slot}}
 use Rattle.race_clock.specs.ClocksState.{no_channel, no_lock, slot_of, next_slot, both_seen, met, clock_of, parts_of}
 use Rattle.race_clock.specs.ClocksState.{channel_of, lock_of, end_of, begin_of, handed, channels_after, locks_after}
 use Rattle.race_clock.specs.ClocksState.{ends_after, acted, paired, after, channel_sent, channel_received}
 use Rattle.race_clock.specs.ClocksState.{channel_closed, lock_locked, lock_unlocked, lock_read_unlocked}
 use Rattle.race_clock.specs.StandsFor.{StandsForChannel, StandsForLock, ClocksStandFor, CountsReaching}
-use Rattle.race_clock.{specs.Needs.{OpHasClocks, HasClocks}, proofs.ClockLists.{knows_joined, knows_with_count}}
+use Rattle.race_clock.{specs.Needs.{OpHasClocks, HasClocks, KnowsUnlocks}, proofs.ClockLists.{knows_joined, knows_with_count}}
 use Rattle.race_clock.proofs.{ClockLists.{joined_long, joined_long_right}, ChannelSteps.{all_same, all_more}}
 use Rattle.race_clock.proofs.ChannelSteps.{hands_receive, hands_send, hands_closed, channel_same, channel_send}
 use Rattle.race_clock.proofs.{ChannelSteps.{channel_receive, channel_close}, LockSteps.{hands_lock, hands_rlock}}
@@ -66,6 +66,27 @@ module _ (caps : ℕ → ℕ) (k : ClocksState) (past : List Event) (S : ClocksS
   handed_counts (TryRLock l) within room = hands_rlock caps past l (lock_of k.locks l) (S.all_locks l within)
   handed_counts (OnceDone o) within room = S.all_ends o within
   handed_counts o within room = from_none caps past (λ i s. IsSource caps past i s o) (knows []) (λ i s at is. is) (λ h. refl)
+
+  -- who has locked a lock since its last unlock knows what the unlocks had seen
+  pub unlocks_known : (g l : ℕ) → g < length k.slots → l < length k.locks → KnowsUnlocks (lock_of k.locks l) g (begin_of k g)
+  unlocks_known g l within below by h =
+      let up : knows (lock_of k.locks l).unlocks h ≤ owning g (participations g past) (knows (clock_of k g)) h =
+      counts_up past (knows (lock_of k.locks l).unlocks) (owning g (participations g past) (knows (clock_of k g)))
+      (SeenFrom caps past (λ j s. IsTrue (unlocks l s))) (λ i h. SeenBy caps past i h g)
+      (S.all_locks l below).all_unlocks (S.all_clocks g within) ((S.all_locks l below).seen g by) h in
+      let begin : knows (begin_of k g) h ≡ owning g (parts_of k g + 1) (knows (clock_of k g)) h =
+      knows_with_count (clock_of k g) g (parts_of k g + 1) h (S.wide g within) in
+      let parts : parts_of k g ≡ participations g past = S.all_parts g within in
+      elim (cases_eq h g) [
+        | inl same ↦ omega (arith, up, begin, parts, own (participations g past) h same, own (parts_of k g + 1) h same)
+        | inr differ ↦ omega (arith, up, begin, other (participations g past) h differ, other (parts_of k g + 1) h differ)
+      ]
+    where
+      own : (n h : ℕ) → h ≡ g → owning g n (knows (clock_of k g)) h ≡ n
+      own n h same = ap (λ b. if b then n else knows (clock_of k g) h) (eq-eqb h g same)
+
+      other : (n h : ℕ) → h ≢ g → owning g n (knows (clock_of k g)) h ≡ knows (clock_of k g) h
+      other n h differ = ap (λ b. if b then n else knows (clock_of k g) h) (ne_eqb h g differ)
 
   module _ (e : Event) where
     -- the clock of a participant's begin
@@ -150,16 +171,19 @@ module _ (caps : ℕ → ℕ) (k : ClocksState) (past : List Event) (S : ClocksS
 
     -- behind a lock of m
     lock_next : (m : ℕ) → ((l : ℕ) → locks l e.op ≡ (m == l)) → ((l : ℕ) → unlocks l e.op ≡ false) → ((l : ℕ) → runlocks l e.op ≡ false)
-        → (l : ℕ) → l < length (set k.locks m (lock_locked (lock_of k.locks m)))
-        → StandsForLock caps (past ++ e ∷ []) l (lock_of (set k.locks m (lock_locked (lock_of k.locks m))) l)
-    lock_next m is no_unlock no_runlock = replaced (StandsForLock caps (past ++ e ∷ [])) k.locks m (lock_locked (lock_of k.locks m)) no_lock
-        (λ less. lock_lock caps past m (lock_of k.locks m) (S.all_locks m less) e (no_unlock m) (is m ∙ eq-eqb m m refl))
+        → ((i : ℕ) (s : Op) → IsTrue (unlocks m s) → IsSource caps past i s e.op) → (l : ℕ) → l < length (set k.locks m (lock_locked (lock_of k.locks m) e.who))
+        → StandsForLock caps (past ++ e ∷ []) l (lock_of (set k.locks m (lock_locked (lock_of k.locks m) e.who)) l)
+    lock_next m is no_unlock no_runlock sources =
+        replaced (StandsForLock caps (past ++ e ∷ [])) k.locks m (lock_locked (lock_of k.locks m) e.who) no_lock
+        (λ less. lock_lock caps past m (lock_of k.locks m) (S.all_locks m less) e (no_unlock m) (is m ∙ eq-eqb m m refl) sources)
         (λ l less differ. lock_same caps past l (lock_of k.locks l) (S.all_locks l less) e (no_unlock l) (is l ∙ ne_eqb m l differ) (no_runlock l))
 
     locks_next : (o : Op) (b : List ℕ) → e.op ≡ o → CountsAt caps (past ++ e ∷ []) (length past) e.who (knows b)
-        → (l : ℕ) → l < length (locks_after k.locks o b) → StandsForLock caps (past ++ e ∷ []) l (lock_of (locks_after k.locks o b) l)
-    locks_next (Lock m) b is own l less = lock_next m (λ l. ap (locks l) is) (λ l. ap (unlocks l) is) (λ l. ap (runlocks l) is) l less
-    locks_next (TryLock m) b is own l less = lock_next m (λ l. ap (locks l) is) (λ l. ap (unlocks l) is) (λ l. ap (runlocks l) is) l less
+        → (l : ℕ) → l < length (locks_after k.locks e.who o b) → StandsForLock caps (past ++ e ∷ []) l (lock_of (locks_after k.locks e.who o b) l)
+    locks_next (Lock m) b is own l less =
+        lock_next m (λ l. ap (locks l) is) (λ l. ap (unlocks l) is) (λ l. ap (runlocks l) is) (λ i s by. subst (IsSource caps past i s) (sym is) (inl by)) l less
+    locks_next (TryLock m) b is own l less =
+        lock_next m (λ l. ap (locks l) is) (λ l. ap (unlocks l) is) (λ l. ap (runlocks l) is) (λ i s by. subst (IsSource caps past i s) (sym is) (inl by)) l less
     locks_next (Unlock m) b is own l less =
         replaced (StandsForLock caps (past ++ e ∷ [])) k.locks m (lock_unlocked (lock_of k.locks m) b) no_lock
         (λ less. lock_unlock caps past m (lock_of k.locks m) (S.all_locks m less) e b

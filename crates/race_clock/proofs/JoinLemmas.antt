@@ -4,7 +4,7 @@ use Rattle.std.proofs.Common.{get_or, set, refl, sym, ap, ◌∙◌, arith, appe
 use Rattle.std.proofs.{Math.Nat.{max_comm, max-zero, zero-max, le-max_left, le-max_right}, lemmas.List.append_assoc}
 use Rattle.std.proofs.lemmas.List.{length-replicate, replicate-append-replicate, take-replicate, set-get_or}
 use Rattle.race_model.proofs.ClockLemmas.{max_within}
-use Rattle.race_clock.specs.{ClockState.{joined, padded}, ClocksState.filled}
+use Rattle.race_clock.specs.{ClockState.{joined, padded}, ClocksState.filled, Needs.KnowsAll}
 
 -- a clock joined with nothing
 pub joined_nothing : (c : List ℕ) → joined c [] ≡ c
@@ -38,6 +38,14 @@ covered_one c d i less le before most =
     ∙ ap (λ l. set l i (max (get_or l i 0) (get_or d i 0))) before
     ∙ ap (set c i) (let same : max (get_or c i 0) (get_or d i 0) ≡ get_or c i 0 = omega (arith, most) in same)
     ∙ set-get_or c i 0
+
+-- a clock that knows no less, and has as many counts written out, is the join
+pub joined_known : (c d : List ℕ) → length c ≤ length d → KnowsAll c d → joined c d ≡ d
+joined_known [] d long less = refl
+joined_known (m ∷ c) [] long less = absurd (omega arith)
+joined_known (m ∷ c) (n ∷ d) long less =
+    ap (λ h. h ∷ joined c d) (let most : max m n ≡ n = omega (arith, less 0) in most)
+    ∙ ap (λ t. n ∷ t) (joined_known c d (omega arith) (λ h. less (suc h)))
 
 -- of two clocks either may come first
 pub joined_comm : (c d : List ℕ) → joined c d ≡ joined d c

@@ -1,13 +1,14 @@
 -- The clocks of a lock, one event on.
-use Rattle.std.proofs.Common.{◌≡◌, ℕ, ◌+◌, ◌<◌, ◌≤◌, Bool, true, false, List, [], ◌∷◌, ◌++◌, take, length, refl, sym}
+use Rattle.std.proofs.Common.{◌≡◌, ℕ, ◌+◌, ◌<◌, ◌≤◌, Bool, true, false, Some, List, [], ◌∷◌, ◌++◌, take, length, refl, sym, subst, inl, inr}
 use Rattle.std.proofs.{Common.{ap, ◌∙◌, arith, IsTrue, length-append}, lemmas.{List.take_all, Option.slice_get_within}}
 use Rattle.race_records.specs.declared.event.{Event.Event, Op.{Op, TheVariants.{Lock, RLock}}}
-use Rattle.race_model.specs.{Events.{At, count, IsKth, locks, unlocks, runlocks}, Order.IsSource, Clocks.CountsFrom}
+use Rattle.race_model.specs.{Events.{At, count, IsKth, locks, unlocks, runlocks}, Order.IsSource, Known.SeenBy, Clocks.{SeenFrom, CountsFrom}}
 use Rattle.race_model.proofs.{ClockSteps.CountsAt, CountSteps.{count_up, count_below}}
 use Rattle.race_model.proofs.{ClockLemmas.{front_old, front_new}, SourceSteps.{from_none, from_either, from_same}}
-use Rattle.race_model.proofs.SourceSteps.{from_more, from_only, Agree}
+use Rattle.race_model.proofs.{SourceSteps.{from_more, from_only, Agree}, Indexes.push_at, Reaching.who_takes_part}
+use Rattle.race_model.proofs.SeenSteps.{seen_at_old, seen_grow, seen_brings}
 use Rattle.race_clock.specs.{ClockState.{knows, joined}, ClocksState.{LockState, lock_locked, lock_unlocked}}
-use Rattle.race_clock.{specs.{ClocksState.lock_read_unlocked, StandsFor.StandsForLock}, proofs.ChannelSteps.count_one}
+use Rattle.race_clock.{specs.{ClocksState.lock_read_unlocked, StandsFor.{StandsForLock, HasSeenUnlocks}}, proofs.ChannelSteps.count_one}
 use Rattle.race_clock.proofs.ChannelSteps.{count_same, from_joined, all_same, all_more}
 
 -- the last of a kind
@@ -99,18 +100,41 @@ module _ (caps : ℕ → ℕ) (past : List Event) (l : ℕ) (k : LockState) (S :
   hands_rlock = S.last_unlock
 
   module _ (e : Event) where
+    -- where no unlock comes, who has seen all of them has still
+    seen_before : unlocks l e.op ≡ false → (i h : ℕ) → SeenFrom caps (past ++ e ∷ []) (λ j s. IsTrue (unlocks l s)) i h
+        → SeenFrom caps past (λ j s. IsTrue (unlocks l s)) i h
+    seen_before no_unlock i h (j, s, at, is, seen) = elim (push_at past e j s at) [
+      | inl old ↦ (j, s, old, is, seen_at_old caps past e i h j s.who (slice_get_within past j s old) seen)
+      | inr new ↦ let wrong : unlocks l e.op ≡ true = subst (λ (s : Event). unlocks l s.op ≡ true) (sym new.1) is in cc
+    ]
+
+    seen_same : unlocks l e.op ≡ false → (g : ℕ) → k.locker ≡ Some g → HasSeenUnlocks caps (past ++ e ∷ []) l g
+    seen_same no_unlock g by i h seen = seen_grow caps past e i h g (S.seen g by i h (seen_before no_unlock i h seen))
+
     pub lock_same : unlocks l e.op ≡ false → locks l e.op ≡ false → runlocks l e.op ≡ false → StandsForLock caps (past ++ e ∷ []) l k
     lock_same no_unlock no_lock no_runlock = record {
       all_unlocks = all_same caps past e (unlocks l) k.unlocks S.all_unlocks no_unlock;
       last_unlock = last_same caps past e (unlocks l) k.last no_unlock S.last_unlock;
       new_runlocks = since_same caps past e (runlocks l) (locks l) k.runlocks no_lock no_runlock S.new_runlocks;
+      seen = seen_same no_unlock;
     }
 
-    pub lock_lock : unlocks l e.op ≡ false → locks l e.op ≡ true → StandsForLock caps (past ++ e ∷ []) l (lock_locked k)
-    lock_lock no_unlock is = record {
+    -- who locks sees all of them
+    seen_lock : unlocks l e.op ≡ false → ((j : ℕ) (s : Op) → IsTrue (unlocks l s) → IsSource caps past j s e.op)
+        → (g : ℕ) → Some e.who ≡ Some g → HasSeenUnlocks caps (past ++ e ∷ []) l g
+    seen_lock no_unlock sources g same i h seen = subst (λ g. SeenBy caps (past ++ e ∷ []) i h g) (let is : e.who ≡ g = cc in is)
+        (go (seen_before no_unlock i h seen))
+      where
+        go : SeenFrom caps past (λ j s. IsTrue (unlocks l s)) i h → SeenBy caps (past ++ e ∷ []) i h e.who
+        go (j, s, at, is, seen) = seen_brings caps past e i h e.who (who_takes_part e) (inr (inr (j, s, at, sources j s.op is, refl, seen)))
+
+    pub lock_lock : unlocks l e.op ≡ false → locks l e.op ≡ true → ((j : ℕ) (s : Op) → IsTrue (unlocks l s) → IsSource caps past j s e.op)
+        → StandsForLock caps (past ++ e ∷ []) l (lock_locked k e.who)
+    lock_lock no_unlock is sources = record {
       all_unlocks = all_same caps past e (unlocks l) k.unlocks S.all_unlocks no_unlock;
       last_unlock = last_same caps past e (unlocks l) k.last no_unlock S.last_unlock;
       new_runlocks = since_mark caps past e (runlocks l) (locks l) is;
+      seen = seen_lock no_unlock sources;
     }
 
     pub lock_unlock : (b : List ℕ) → unlocks l e.op ≡ true → locks l e.op ≡ false
@@ -120,6 +144,7 @@ module _ (caps : ℕ → ℕ) (past : List Event) (l : ℕ) (k : LockState) (S :
       all_unlocks = all_more caps past e (unlocks l) k.unlocks S.all_unlocks b is own;
       last_unlock = last_new caps past e (unlocks l) b is own;
       new_runlocks = since_same caps past e (runlocks l) (locks l) k.runlocks no_lock no_runlock S.new_runlocks;
+      seen = λ g none. cc;
     }
 
     pub lock_runlock : (b : List ℕ) → unlocks l e.op ≡ false → locks l e.op ≡ false
@@ -129,4 +154,5 @@ module _ (caps : ℕ → ℕ) (past : List Event) (l : ℕ) (k : LockState) (S :
       all_unlocks = all_same caps past e (unlocks l) k.unlocks S.all_unlocks no_unlock;
       last_unlock = last_same caps past e (unlocks l) k.last no_unlock S.last_unlock;
       new_runlocks = since_more caps past e (runlocks l) (locks l) k.runlocks b no_lock is S.new_runlocks own;
+      seen = seen_same no_unlock;
     }

@@ -13,7 +13,7 @@ use Rattle.race_model.proofs.ChannelOrder.{rules_kept}
 use Rattle.race_legal.specs.ReplayState.{IsInRange}
 use Rattle.race_clock.specs.{ClocksState.{ClocksState, parts_of, channel_of}, StamperState.StamperState}
 use Rattle.race_clock.specs.{StandsFor.{ClocksStandFor, StandsFor, IsAllowed}, Needs.{OpHasClocks, HasClocks, IsApart}}
-use Rattle.race_clock.{specs.Needs.CountsFit, proofs.{ClocksSteps.FindsRoom, RoomLemmas.{send_room, receive_room}}}
+use Rattle.race_clock.{specs.Needs.{CountsFit, OpKnowsUnlocks}, proofs.{ClocksSteps.{FindsRoom, unlocks_known}, RoomLemmas.{send_room, receive_room}}}
 
 and_first : (a b : Bool) → (a && b) ≡ true → a ≡ true
 and_first true b is = refl
@@ -94,6 +94,14 @@ module _ (declarations : List Declaration) (k : StamperState) (past : List Event
       go (OnceEnd o) is = below o _ _ _ S.all_onces is
       go (OnceDone o) is = below o _ _ _ S.all_onces is
       go _ is = tt
+
+  -- an unlock by who has locked knows what the unlocks had seen
+  pub knows_unlocks : OpKnowsUnlocks k.clocks e.who e.op
+  knows_unlocks = go e.op has_clocks.1
+    where
+      go : (o : Op) → OpHasClocks k.clocks o → OpKnowsUnlocks k.clocks e.who o
+      go (Unlock l) within = unlocks_known (capacity_of declarations) k.clocks past S.clocks e.who l has_clocks.0 within
+      go _ within = tt
 
   -- the counts fit
   pub counts_fit : length past < MAX_EVENTS → CountsFit k.clocks e.who e.op

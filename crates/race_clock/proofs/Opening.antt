@@ -77,6 +77,7 @@ module _ (declarations : List Declaration) (k : ClocksState) where
         all_unlocks = no_event caps _ [] (λ h. refl);
         last_unlock = no_event caps _ [] (λ h. refl);
         new_runlocks = no_event caps _ [] (λ h. refl);
+        seen = λ g is. cc;
       });
       all_ends = λ o less. no_event caps _ _ (none o);
     };

@@ -19,8 +19,8 @@ length_channels_after k who (Close c) = length-set k.channels c (channel_closed 
 length_channels_after k who _ = λ i. length k.channels
 
 length_locks_after : (k : ClocksState) (who : ℕ) (o : Op) → length (after k who o).locks ≡ length k.locks
-length_locks_after k who (Lock l) = length-set k.locks l (lock_locked (lock_of k.locks l))
-length_locks_after k who (TryLock l) = length-set k.locks l (lock_locked (lock_of k.locks l))
+length_locks_after k who (Lock l) = length-set k.locks l (lock_locked (lock_of k.locks l) who)
+length_locks_after k who (TryLock l) = length-set k.locks l (lock_locked (lock_of k.locks l) who)
 length_locks_after k who (Unlock l) = length-set k.locks l (lock_unlocked (lock_of k.locks l) (begin_of k who))
 length_locks_after k who (RUnlock l) = length-set k.locks l (lock_read_unlocked (lock_of k.locks l) (begin_of k who))
 length_locks_after k who _ = λ i. length k.locks

@@ -1,5 +1,5 @@
 -- The clocks that a stamper keeps, and how an operation changes them.
-use Rattle.std.specs.Prelude.{ℕ, if◌then◌else◌, ◌==◌, ◌+◌, ◌-◌, Bool, List, [], ◌∷◌, ◌++◌, length, drop, zero, suc}
+use Rattle.std.specs.Prelude.{ℕ, if◌then◌else◌, ◌==◌, ◌+◌, ◌-◌, Bool, Option, Some, None, List, [], ◌∷◌, ◌++◌, length, drop, zero, suc}
 use Rattle.std.specs.{Prelude.slice_set, List.slice_index_or}
 use Rattle.race_records.specs.declared.event.Op.{Op, TheVariants.{Go, Read, Write, Send, Recv, Meet, RecvClosed, Close}}
 use Rattle.race_records.specs.declared.event.Op.TheVariants.{Lock, Unlock, RLock, RUnlock, TryLock, TryRLock, TryFail}
@@ -14,11 +14,13 @@ pub record ChannelState : Type 0 where
   pub freed : List (List ℕ)
   pub closed : List ℕ
 
--- of a lock: the clocks of its unlocks so far, of the last of them, and of its runlocks since the last lock
+-- of a lock: the clocks of its unlocks so far, of the last of them, and of its runlocks since the last lock; and who has locked it
+-- since its last unlock
 pub record LockState : Type 0 where
   pub unlocks : List ℕ
   pub last : List ℕ
   pub runlocks : List ℕ
+  pub locker : Option ℕ
 
 -- of a goroutine: its clock, and how many events it took part in
 pub record ThreadClockState : Type 0 where
@@ -42,7 +44,7 @@ abbrev pub no_channel : ChannelState
 no_channel = record { capacity = 0; sent = []; freed = []; closed = [] }
 
 abbrev pub no_lock : LockState
-no_lock = record { unlocks = []; last = []; runlocks = [] }
+no_lock = record { unlocks = []; last = []; runlocks = []; locker = None }
 
 -- the entry of a number
 abbrev pub slot_of : ClocksState → ℕ → ThreadClockState
@@ -113,31 +115,31 @@ channel_closed ch b = record {
   closed = joined ch.closed b;
 }
 
--- a lock behind a lock, an unlock and a runlock
-abbrev pub lock_locked : LockState → LockState
-lock_locked k = record { unlocks = k.unlocks; last = k.last; runlocks = [] }
+-- a lock after a lock by g, an unlock and a runlock
+abbrev pub lock_locked : LockState → ℕ → LockState
+lock_locked k g = record { unlocks = k.unlocks; last = k.last; runlocks = []; locker = Some g }
 
 abbrev pub lock_unlocked : LockState → List ℕ → LockState
-lock_unlocked k b = record { unlocks = joined k.unlocks b; last = b; runlocks = k.runlocks }
+lock_unlocked k b = record { unlocks = joined k.unlocks b; last = b; runlocks = k.runlocks; locker = None }
 
 abbrev pub lock_read_unlocked : LockState → List ℕ → LockState
-lock_read_unlocked k b = record { unlocks = k.unlocks; last = k.last; runlocks = joined k.runlocks b }
+lock_read_unlocked k b = record { unlocks = k.unlocks; last = k.last; runlocks = joined k.runlocks b; locker = k.locker }
 
--- the objects behind an operation whose begin has the clock b
+-- the objects after an operation of g whose begin has the clock b
 abbrev pub channels_after : List ChannelState → Op → List ℕ → List ChannelState
 channels_after cs (Send c v) b = slice_set cs c (channel_sent (channel_of cs c) b)
 channels_after cs (Recv c v) b = slice_set cs c (channel_received (channel_of cs c) b)
 channels_after cs (Close c) b = slice_set cs c (channel_closed (channel_of cs c) b)
 channels_after cs _ b = cs
 
-abbrev pub locks_after : List LockState → Op → List ℕ → List LockState
-locks_after ls (Lock l) b = slice_set ls l (lock_locked (lock_of ls l))
-locks_after ls (Unlock l) b = slice_set ls l (lock_unlocked (lock_of ls l) b)
-locks_after ls (RUnlock l) b = slice_set ls l (lock_read_unlocked (lock_of ls l) b)
-locks_after ls (TryLock l) b = slice_set ls l (lock_locked (lock_of ls l))
-locks_after ls (TryRLock l) b = ls
-locks_after ls (TryFail l) b = ls
-locks_after ls _ b = ls
+abbrev pub locks_after : List LockState → ℕ → Op → List ℕ → List LockState
+locks_after ls g (Lock l) b = slice_set ls l (lock_locked (lock_of ls l) g)
+locks_after ls g (Unlock l) b = slice_set ls l (lock_unlocked (lock_of ls l) b)
+locks_after ls g (RUnlock l) b = slice_set ls l (lock_read_unlocked (lock_of ls l) b)
+locks_after ls g (TryLock l) b = slice_set ls l (lock_locked (lock_of ls l) g)
+locks_after ls g (TryRLock l) b = ls
+locks_after ls g (TryFail l) b = ls
+locks_after ls g _ b = ls
 
 abbrev pub ends_after : List (List ℕ) → Op → List ℕ → List (List ℕ)
 ends_after es (OnceEnd o) b = slice_set es o (joined (end_of es o) b)
@@ -161,7 +163,7 @@ abbrev pub acted : ClocksState → ℕ → Op → List ℕ → ClocksState
 acted k g o c = record {
   slots = slice_set k.slots g (next_slot k g c);
   channels = channels_after k.channels o (begin_of k g);
-  locks = locks_after k.locks o (begin_of k g);
+  locks = locks_after k.locks g o (begin_of k g);
   ends = ends_after k.ends o (begin_of k g);
 }
 

@@ -1,9 +1,9 @@
 -- What a step needs of the next operation: not needed to understand a contract.
-use Rattle.std.specs.Prelude.{ℕ, ◌≢◌, ◌<◌, ◌+◌, ◌^◌, length}
+use Rattle.std.specs.Prelude.{ℕ, ◌≡◌, ◌≢◌, ◌<◌, ◌≤◌, ◌+◌, ◌^◌, length, List, Some}
 use Rattle.race_records.specs.declared.event.Op.{Op, TheVariants.{Go, Send, Recv, Meet, RecvClosed, Close, Lock}}
 use Rattle.race_records.specs.declared.event.Op.TheVariants.{Unlock, RLock, RUnlock, TryLock, TryRLock, OnceEnd}
 use Rattle.race_records.specs.declared.event.Op.TheVariants.{OnceDone}
-use Rattle.race_clock.specs.ClocksState.{ClocksState, parts_of}
+use Rattle.race_clock.specs.{ClockState.knows, ClocksState.{ClocksState, LockState, parts_of, lock_of, begin_of}}
 
 -- there is a clock for each number that the operation names
 abbrev pub OpHasClocks : ClocksState → Op → Type 0
@@ -38,3 +38,16 @@ abbrev pub CountsFit : ClocksState → ℕ → Op → Type 0
 CountsFit k who (Go h) = (parts_of k who + 1 < 2 ^ 32) × (parts_of k h + 1 < 2 ^ 32)
 CountsFit k who (Meet r c v) = (parts_of k who + 1 < 2 ^ 32) × (parts_of k r + 1 < 2 ^ 32)
 CountsFit k who _ = parts_of k who + 1 < 2 ^ 32
+
+-- no count of the first clock is greater
+abbrev pub KnowsAll : List ℕ → List ℕ → Type 0
+KnowsAll c d = (h : ℕ) → knows c h ≤ knows d h
+
+-- who has locked the lock since its last unlock knows by this clock what the unlocks had seen
+abbrev pub KnowsUnlocks : LockState → ℕ → List ℕ → Type 0
+KnowsUnlocks k g clock = k.locker ≡ Some g → KnowsAll k.unlocks clock
+
+-- so it is where the operation is an unlock
+abbrev pub OpKnowsUnlocks : ClocksState → ℕ → Op → Type 0
+OpKnowsUnlocks k who (Unlock l) = KnowsUnlocks (lock_of k.locks l) who (begin_of k who)
+OpKnowsUnlocks k who _ = Unit {0}

@@ -1,11 +1,11 @@
 -- What a stamper says of the events that it took. (The Go Memory Model, "Memory Model": happens before)
-use Rattle.std.specs.Prelude.{ℕ, ◌≡◌, ◌<◌, ◌+◌, ◌-◌, Bool, IsTrue, None, List, [], ◌∷◌, ◌++◌, length, take}
+use Rattle.std.specs.Prelude.{ℕ, ◌≡◌, ◌<◌, ◌+◌, ◌-◌, Bool, IsTrue, Some, None, List, [], ◌∷◌, ◌++◌, length, take}
 use Rattle.std.specs.List.{slice_index_or}
 use Rattle.race_records.specs.declared.{event.{Event.Event, Op.Op}, kind.Kind.Kind, trace.TheConstants.MAX_EVENTS}
 use Rattle.race_records.specs.Declarations.{Declaration, count_of, counts_of, capacity_of}
 use Rattle.race_model.specs.Events.{is_access, count, IsKth, sends, receives, closes, locks, unlocks, runlocks}
 use Rattle.race_model.specs.{Events.once_ends, Legal.broken, Order.{Begin, Reaches, IsLastUnlock}}
-use Rattle.race_model.specs.Clocks.{participations, CountsBegins, CountsSeen, CountsFrom}
+use Rattle.race_model.specs.{Known.SeenBy, Clocks.{participations, CountsBegins, CountsSeen, SeenFrom, CountsFrom}}
 use Rattle.race_legal.specs.ReplayState.{IsInRange}
 use Rattle.race_clock.specs.{ClockState.knows, ClocksState.{ChannelState, LockState, ClocksState, clock_of, parts_of}}
 use Rattle.race_clock.specs.{ClocksState.{channel_of, lock_of, end_of}, StamperState.StamperState}
@@ -24,12 +24,18 @@ pub record StandsForChannel (caps : ℕ → ℕ) (past : List Event) (c : ℕ) (
   pub freed : IsQueue caps past (receives c) (count (sends c) past - caps c) ch.freed
   pub closed : CountsFrom caps past (λ k s. IsTrue (closes c s)) (knows ch.closed)
 
+-- g has seen all that the unlocks of l had seen by their begins, these included
+abbrev pub HasSeenUnlocks : (ℕ → ℕ) → List Event → ℕ → ℕ → Type 0
+HasSeenUnlocks caps past l g = (i h : ℕ) → SeenFrom caps past (λ k s. IsTrue (unlocks l s)) i h → SeenBy caps past i h g
+
 -- the clocks of lock l
 pub record StandsForLock (caps : ℕ → ℕ) (past : List Event) (l : ℕ) (k : LockState) : Type 0 where
   pub all_unlocks : CountsFrom caps past (λ i s. IsTrue (unlocks l s)) (knows k.unlocks)
   pub last_unlock : CountsFrom caps past (λ i s. IsLastUnlock past i s l) (knows k.last)
   -- the runlocks behind which no Lock stands
   pub new_runlocks : CountsFrom caps past (λ i s. IsTrue (runlocks l s) × (count (locks l) (take i past) ≡ count (locks l) past)) (knows k.runlocks)
+  -- who has locked it since the last unlock has seen them all
+  pub seen : (g : ℕ) → k.locker ≡ Some g → HasSeenUnlocks caps past l g
 
 -- each clock counts the begins that it is to count
 pub record ClocksStandFor (caps : ℕ → ℕ) (k : ClocksState) (past : List Event) : Type 0 where

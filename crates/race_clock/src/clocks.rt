@@ -8,7 +8,7 @@ ghost use Rattle.std.specs.Prelude.{◌≡◌, ◌≢◌, ◌+◌, ◌<◌, ◌^
 ghost use Rattle.std.specs.List.{slice_index_or};
 ghost use Rattle.race_records.specs.{declared.kind.Kind.Kind, Declarations.{count_of, capacity_of}};
 ghost use Rattle.race_clock.specs.{ClocksState.{ClocksState, clock_of, parts_of, after}, First.IsFirst};
-ghost use Rattle.race_clock.specs.Needs.{HasClocks, IsApart, CountsFit};
+ghost use Rattle.race_clock.specs.Needs.{HasClocks, IsApart, CountsFit, OpKnowsUnlocks};
 ghost use Rattle.race_records.specs.declared.event.Op.TheVariants as op;
 ghost use Rattle.race_clock.specs.ClocksState as spec;
 
@@ -145,6 +145,7 @@ impl<A: Allocator + Copy> Clocks<A> {
         requires range { HasClocks self.old who op.now }
         requires apart { IsApart who op.now }
         requires counts { CountsFit self.old who op.now }
+        requires unlocks { OpKnowsUnlocks self.old who op.now }
         ensures ok { OnOk result (self.new ≡ after self.old who op.now) }
         ensures unchanged { OnErr result (self.new ≡ self.old) }
     {
@@ -242,7 +243,7 @@ impl<A: Allocator + Copy> Clocks<A> {
         let slot = &mut self.slots[who as usize];
         let clocks = &mut self.locks[lock as usize];
         slot.lock(clocks)?;
-        clocks.lock();
+        clocks.lock(who);
         Ok(())
     }
 
@@ -251,6 +252,7 @@ impl<A: Allocator + Copy> Clocks<A> {
     fn unlock(&mut self, who: u32, lock: u32) -> Result<(), AllocError>
         requires range { who < length self.old.slots }
         requires locks { lock < length self.old.locks }
+        requires unlocks { OpKnowsUnlocks self.old who (op.Unlock lock) }
         requires counts { parts_of self.old who + 1 < 2 ^ 32 }
         ensures ok { OnOk result (self.new ≡ after self.old who (op.Unlock lock)) }
         ensures unchanged { OnErr result (self.new ≡ self.old) }
@@ -258,7 +260,7 @@ impl<A: Allocator + Copy> Clocks<A> {
         let slot = &mut self.slots[who as usize];
         let clocks = &mut self.locks[lock as usize];
         slot.begin(who, &mut self.spare)?;
-        clocks.unlock(&mut self.spare)?;
+        clocks.unlock(who, &mut self.spare)?;
         slot.pass();
         Ok(())
     }

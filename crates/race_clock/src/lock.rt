@@ -1,6 +1,7 @@
-//! The clocks of a lock: four words, until it is first unlocked.
-ghost use Rattle.std.specs.{Prelude.{◌≡◌, ◌+◌, ◌<◌, ◌^◌, List, [], OnOk, OnErr}, Option.option_map_or};
-ghost use Rattle.race_clock.specs.{ClockState.joined, ClocksState.{LockState, no_lock, lock_locked, lock_unlocked}};
+//! The clocks of a lock: five words, until it is first unlocked.
+ghost use Rattle.std.specs.{Prelude.{◌≡◌, List, [], IsTrue, OnOk, OnErr}, Option.option_map_or};
+ghost use Rattle.race_clock.specs.ClockState.{joined};
+ghost use Rattle.race_clock.specs.{ClocksState.{LockState, no_lock, lock_locked, lock_unlocked}, Needs.{KnowsAll, KnowsUnlocks}};
 ghost use Rattle.race_clock.specs.UnlocksState.{UnlocksState};
 
 use crate::clock::Clock;
@@ -26,6 +27,8 @@ impl<A: Allocator> Model for Unlocks<A> {
 pub(crate) struct LockClock<A: Allocator> {
     unlocks: Option<Box<Unlocks<A>, A>>,
     pub(crate) runlocks: SyncClock<A>,
+    // Who has locked since the last unlock, and so has seen all of them.
+    locker: Option<u32>,
 }
 
 impl<A: Allocator> Model for LockClock<A> {
@@ -35,6 +38,7 @@ impl<A: Allocator> Model for LockClock<A> {
       unlocks = option_map_or (λ unlocks. unlocks.value.all) k.unlocks [];
       last = option_map_or (λ unlocks. unlocks.value.last) k.unlocks [];
       runlocks = k.runlocks;
+      locker = k.locker;
     } };
 }
 
@@ -46,6 +50,7 @@ impl<A: Allocator + Copy> LockClock<A> {
         LockClock {
             unlocks: None,
             runlocks: SyncClock::new(),
+            locker: None,
         }
     }
 
@@ -82,23 +87,43 @@ impl<A: Allocator + Copy> LockClock<A> {
     }
 
     #[inline(always)]
-    pub(crate) fn lock(&mut self)
-        ensures { self.new ≡ lock_locked self.old }
+    pub(crate) fn lock(&mut self, who: u32)
+        ensures { self.new ≡ lock_locked self.old who }
     {
         self.runlocks.clear();
+        self.locker = Some(who);
     }
 
-    /// Takes the clock of an unlock's begin, which is then free to be written.
+    /// Takes the clock of the begin of an unlock by `who`, which is then free to be written.
     #[inline(always)]
-    pub(crate) fn unlock(&mut self, begin: &mut Clock<A>) -> Result<(), AllocError>
+    pub(crate) fn unlock(&mut self, who: u32, begin: &mut Clock<A>) -> Result<(), AllocError>
+        requires { KnowsUnlocks self.old who begin.old }
         ensures ok { OnOk result (self.new ≡ lock_unlocked self.old begin.old) }
         ensures unchanged { OnErr result (self.new ≡ self.old) }
     {
+        let has_seen_all = self.locker == Some(who);
+        self.add_unlock(has_seen_all, begin)?;
+        self.locker = None;
+        Ok(())
+    }
+
+    // Adds an unlock to what is kept of them.
+    #[inline(always)]
+    fn add_unlock(&mut self, has_seen_all: bool, begin: &mut Clock<A>) -> Result<(), AllocError>
+        requires { IsTrue has_seen_all → KnowsAll self.old.unlocks begin.old }
+        ensures ok { OnOk result (self.new ≡ record {
+          unlocks = joined self.old.unlocks begin.old;
+          last = begin.old;
+          runlocks = self.old.runlocks;
+          locker = self.old.locker;
+        }) }
+        ensures unchanged { OnErr result (self.new ≡ self.old) }
+    {
         if let Some(unlocks) = &mut self.unlocks {
-            return unlocks.add(begin);
+            return unlocks.add(has_seen_all, begin);
         }
         let mut unlocks = Box::new(begin.allocator(), Unlocks::new(begin))?;
-        unlocks.add(begin)?;
+        unlocks.add(false, begin)?;
         self.unlocks = Some(unlocks);
         Ok(())
     }
@@ -123,14 +148,14 @@ impl<A: Allocator + Copy> Unlocks<A> {
         }
     }
 
-    // Takes the clock of one more unlock's begin.
-    #[tactic(auto, using(crate::proofs::JoinLemmas::joined_comm))]
-    fn add(&mut self, begin: &mut Clock<A>) -> Result<(), AllocError>
+    // Takes the clock of one more unlock's begin, which may be known to know no less than all before it.
+    #[tactic(auto, using(crate::proofs::JoinLemmas::joined_comm, crate::proofs::JoinLemmas::joined_known))]
+    fn add(&mut self, has_seen_all: bool, begin: &mut Clock<A>) -> Result<(), AllocError>
+        requires { IsTrue has_seen_all → KnowsAll self.old.all begin.old }
         ensures ok { OnOk result (self.new ≡ record { all = joined self.old.all begin.old; last = begin.old }) }
         ensures unchanged { OnErr result (self.new ≡ self.old) }
     {
-        // So it is where who unlocks has locked.
-        if begin.covers(self.all()) {
+        if (has_seen_all && self.all().len() <= begin.len()) || begin.covers(self.all()) {
             self.all = None;
             mem::swap(&mut self.last, begin);
             return Ok(());

@@ -5,7 +5,7 @@ use Rattle.std.specs.{Option.option_map, String.string_bytes, declared.{io.{Erro
 use Rattle.clap.specs.declared.error.kind.ErrorKind.{ErrorKind}
 use Rattle.race_records.specs.declared.{source.Source.Source, sink.Sink.Sink}
 use Rattle.race_command.specs.{declared.command.Request.Request, Request.is_in_limits}
-use Rattle.race_tool.specs.{Draw.Draws, Edges.Lists, Explain.Explains, Finding.Checks, Options.picks_asked, Predict.{Certifies, Predicts}}
+use Rattle.race_tool.specs.{Draw.Draws, Edges.Lists, Explain.Explains, Explore.Explores, Finding.Checks, Options.picks_asked, Predict.{Certifies, Predicts}}
 use Rattle.race_tool.specs.{Race.Judges, Run.Runs, Witness.Shows}
 use Rattle.std.specs.declared.io.ErrorKind.TheVariants as io
 use Rattle.clap.specs.declared.error.kind.ErrorKind.TheVariants as kind
@@ -21,6 +21,8 @@ Does (Request.Run options) remaining contents source source_now sink sink_now an
     Runs options.limit (picks_asked options) remaining contents source source_now sink sink_now answer
 Does (Request.Race run check) remaining contents source source_now sink sink_now answer =
     Judges Global run.limit (picks_asked run) check.plain remaining contents source source_now sink sink_now answer
+Does (Request.Explore options) remaining contents source source_now sink sink_now answer =
+    Explores Global options remaining contents source source_now sink sink_now answer
 Does (Request.Witness name) remaining contents source source_now sink sink_now answer =
     Shows Global (string_bytes name) remaining contents source source_now sink sink_now answer
 Does (Request.Draw name svg) remaining contents source source_now sink sink_now answer =

@@ -1,9 +1,10 @@
 //! The command line: what it asks for.
 ghost use Rattle.std.specs.Prelude.{◌≤◌, IsTrue, IfOk, IfSome};
-ghost use Rattle.race_tool.specs.{Outcome.are_in_limits, Options.are_run_limits};
+ghost use Rattle.race_tool.specs.{Outcome.are_in_limits, Options.are_run_limits, Explore.are_explore_limits};
 ghost use Rattle.race_command.specs.Request.{is_in_limits};
 
 use crate::drawing::{draw, drawn_variable};
+use crate::exploring::explore;
 use crate::help;
 use crate::number::{number_in, picks_in};
 use crate::predicting::predict;
@@ -12,7 +13,8 @@ use clap::error::ErrorKind;
 use clap::{Arg, ArgAction, ArgMatches, Command, Error};
 use race_records::MAX_EVENTS;
 use race_tool::{
-    CheckOptions, MAX_BLOCK, MAX_PREDICTED, MAX_SHARDS, MAX_WORKERS, PredictOptions, RunOptions,
+    CheckOptions, ExploreOptions, MAX_BLOCK, MAX_PREDICTED, MAX_RUNS, MAX_SHARDS, MAX_WORKERS,
+    PredictOptions, RunOptions,
 };
 use std::alloc::{AllocError, Global};
 use std::convert::AsStr;
@@ -30,6 +32,8 @@ pub(crate) enum Request {
     Run(RunOptions),
     /// Run the program on standard input, and judge the run.
     Race(RunOptions, CheckOptions),
+    /// Look at all runs of the program on standard input.
+    Explore(ExploreOptions),
     /// Show the race on the variable of this name of the trace on standard input.
     Witness(String),
     /// Draw the race on the variable of this name, or each race, of the trace on standard input; as an SVG document or not.
@@ -46,6 +50,7 @@ enum Numbered {
     Check,
     Run,
     Race,
+    Explore,
     Predict,
 }
 
@@ -55,6 +60,7 @@ impl Numbered {
             Numbered::Check => check(alloc),
             Numbered::Run => run(alloc),
             Numbered::Race => race(alloc),
+            Numbered::Explore => explore(alloc),
             Numbered::Predict => predict(alloc),
         }
     }
@@ -95,6 +101,9 @@ fn request_in(alloc: Global, matches: &ArgMatches<'_>) -> Result<Request, Error>
         let check = check_options(alloc, Numbered::Race, given)?;
         return Ok(Request::Race(run_options(alloc, Numbered::Race, given)?, check));
     }
+    if let Some(given) = matches.subcommand_matches("explore") {
+        return Ok(Request::Explore(explore_options(alloc, given)?));
+    }
     if let Some(given) = matches.subcommand_matches("witness") {
         return Ok(Request::Witness(shown_variable(alloc, given)?));
     }
@@ -129,6 +138,7 @@ fn gorace<'a>(alloc: Global) -> Result<Command<'a>, AllocError> {
     let command = with_subcommand(command, Ok(edges(alloc)))?;
     let command = with_subcommand(command, run(alloc))?;
     let command = with_subcommand(command, race(alloc))?;
+    let command = with_subcommand(command, explore(alloc))?;
     let command = with_subcommand(command, witness(alloc))?;
     let command = with_subcommand(command, draw(alloc))?;
     with_subcommand(command, predict(alloc))
@@ -270,6 +280,19 @@ fn predict_request(alloc: Global, given: &ArgMatches<'_>) -> Result<Request, Err
             Ok(Request::Predict(PredictOptions { most, turned }))
         }
     }
+}
+
+// How the runs of a program are looked at, as the command's words say.
+fn explore_options(alloc: Global, given: &ArgMatches<'_>) -> Result<ExploreOptions, Error>
+    ensures { IfOk result (λ options. IsTrue (are_explore_limits options)) }
+{
+    let usual = ExploreOptions::default();
+    let limit = limited(alloc, Numbered::Explore, given, "limit", MAX_EVENTS)?;
+    let runs = limited(alloc, Numbered::Explore, given, "runs", MAX_RUNS as usize)?;
+    Ok(ExploreOptions {
+        runs: runs.unwrap_or(usual.runs as usize) as u64,
+        limit: limit.unwrap_or(usual.limit as usize) as u32,
+    })
 }
 
 // How a program is run, as the command's words say.

@@ -2,7 +2,7 @@
 
 pub(crate) const ABOUT: &str = "Judges recorded runs of goroutines by The Go Memory Model";
 
-pub(crate) const VERSION: &str = "0.1.0 (proved with rattle-kit-13b, logic dac8208d650f15bf)";
+pub(crate) const VERSION: &str = "0.1.0 (proved with rattle-kit-13f, logic dac8208d650f15bf)";
 
 pub(crate) const AFTER_HELP: &str = "\
 'gorace check --help' says what a trace is, with an example, and what the statuses mean;
@@ -311,3 +311,39 @@ Statuses:
   4   out of memory, or a thread could not be started
   5   reading or writing failed
   15  the run could not be recorded, or what was recorded isn't a run of the program";
+
+pub(crate) const EXPLORE_ABOUT: &str =
+    "Reads a program from standard input, and judges all its runs";
+
+pub(crate) const EXPLORE_USAGE: &str = "gorace explore [OPTIONS] < PROGRAM";
+
+pub(crate) const EXPLORE_HELP: &str = "\
+Runs the program by one list of picks after another, until each run was looked
+at, and judges each as 'gorace race' does; 'gorace run --help' says what a
+program is, and what picks are. Of the program of 'gorace race --help' it writes
+
+  race on x in 5 of 6 runs: write by main at m:2, read by w at w:1; with --picks 0
+  runs: 6, clean: 1, races: 5, deadlocks: 0, faults: 0
+
+A line for each variable with a race in some run tells in how many it has one,
+the race of the first of them, and its picks: 'gorace race' shows that run by
+them. Lines for ends follow, where main didn't return in some run: 'fault' with
+who failed, 'deadlock' with who waits, 'limit', and 'bad request' with who asked
+what can't be. Runs that ended in the same way, of the same goroutines at the
+same places, have one line.
+
+Where there are more runs than --runs, a line 'stopped after N runs' tells so,
+and nothing is said of the others.
+
+Statuses:
+  66  some run has data races
+  0   all runs were looked at, none has a race, and main returned in each
+  10  none has a race, and in one a goroutine failed
+  11  as 10, but in one each goroutine waits, and none can go on
+  12  as 11, but in one the limit is reached, or there are more runs
+  13  as 12, but in one a goroutine asked what can't be
+  2   not a program; the line at fault and why
+  3   usage
+  4   memory was refused
+  5   reading or writing failed
+  15  a run could not be recorded, or what was recorded isn't a run of the program";

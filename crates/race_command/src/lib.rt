@@ -3,6 +3,7 @@
 
 mod command;
 mod drawing;
+mod exploring;
 mod help;
 mod number;
 mod predicting;

@@ -12,8 +12,8 @@ use clap::Error;
 use clap::error::ErrorKind;
 use race_records::{Sink, Source};
 use race_tool::{
-    run_certify, run_check, run_draw, run_edges, run_explain, run_predict, run_race, run_run,
-    run_witness, status,
+    run_certify, run_check, run_draw, run_edges, run_explain, run_explore, run_predict, run_race,
+    run_run, run_witness, status,
 };
 use std::alloc::Global;
 use std::env::Args;
@@ -25,11 +25,12 @@ use std::thread::Threads;
 
 /// Does what the words ask for, and says on standard error what no report says.
 ///
-/// A check ends with the status that `run_check` answers, an explained one with that of `run_explain`, a listing of edges with that of
-/// `run_edges`, a run with that of `run_run`, a judged run with that of `run_race`, a witness with that of
-/// `run_witness`, a drawing with that of `run_draw`, predictions with that of `run_predict`, and the run that
-/// shows one with that of `run_certify`. Help and the version end with 0, or with 5 where they can't be printed. Words that are at fault or aren't text
-/// end with 3, and a line on standard error says so. If memory for them is refused, the status is 4.
+/// A check ends with the status that `run_check` answers, an explained one with that of `run_explain`, a listing of
+/// edges with that of `run_edges`, a run with that of `run_run`, a judged run with that of `run_race`, all runs with
+/// that of `run_explore`, a witness with that of `run_witness`, a drawing with that of `run_draw`, predictions with
+/// that of `run_predict`, and the run that shows one with that of `run_certify`. Help and the version end with 0, or
+/// with 5 where they can't be printed. Words that are at fault or aren't text end with 3, and a line on standard error
+/// says so. If memory for them is refused, the status is 4.
 ///
 /// Several shards and several workers are threads, for which the call waits. So what is promised holds
 /// where it returns, and it returns if its reads, writes and threads do.
@@ -39,8 +40,9 @@ pub fn run<T: AllocGlobal + Print + Eprint + Threads + Wait + Sync, R: Read, W: 
     source: &mut Source<R>,
     sink: &mut Sink<W>,
 ) -> ExitCode
-    // The input is checked, its report is explained, its edges are listed, a race of it is shown, its races are drawn, races of other runs are predicted or one of
-    // them is shown, it is run, or it is run and judged, or the words ask for none of these, and nothing is read or written.
+    // The input is checked, its report is explained, its edges are listed, a race of it is shown, its races are drawn,
+    // races of other runs are predicted or one of them is shown, it is run, it is run and judged, or all its runs are.
+    // Or the words ask for none of these, and nothing is read or written.
     ensures words { IfOk args (λ words.
         Ends R.remaining W.contents source.old source.new sink.old sink.new (exit_status result)) }
 
@@ -109,6 +111,7 @@ fn answer_request<T: AllocGlobal + Print + Eprint + Threads + Wait + Sync, R: Re
             Request::Edges => run_edges(rt.alloc(), source, sink),
             Request::Run(options) => run_run(rt, rt.alloc(), source, sink, &options),
             Request::Race(run, check) => run_race(rt, rt.alloc(), source, sink, &run, &check),
+            Request::Explore(options) => run_explore(rt.alloc(), source, sink, &options),
             Request::Witness(name) => run_witness(rt.alloc(), source, sink, name.as_str()),
             Request::Draw(name, svg) => draw(rt.alloc(), source, sink, &name, svg),
             Request::Predict(options) => run_predict(rt.alloc(), source, sink, &options),

@@ -1,6 +1,6 @@
 //! The hub: the goroutines of a run, their requests, and the trace that they make.
 ghost use Rattle.std.specs.Prelude.{◌≡◌, ◌≢◌, ◌⊎◌, [], length, Some, None, Ok, Err};
-ghost use Rattle.std.specs.Prelude.{true, false, ◌≤◌, ◌==◌, ◌&&◌, IsTrue, All, IfOk, IfErr, IfSome, IsNone, OnOk};
+ghost use Rattle.std.specs.Prelude.{true, false, ◌≤◌, ◌==◌, ◌&&◌, nat_lt, is_none, IsTrue, All, IfOk, IfErr, IfSome, IsNone, OnOk};
 ghost use Rattle.std.specs.{Prelude.OnErr, List.find, Option.{option_copied, option_map}};
 ghost use Rattle.race_records.specs.Refusal.{Refuses, AllowsUnless};
 ghost use Rattle.race_records.specs.{declared.{kind.Kind.Kind, trace.TheConstants.MAX_EVENTS}, Declarations.{capacity_of, count_of}};
@@ -18,7 +18,9 @@ use crate::firing::{Firing, firing_of};
 use crate::moves::is_among;
 use crate::opening::{HubFault, fault_of, seated};
 use crate::waiters::request_of;
-use crate::{Answer, Choice, End, Job, Mismatch, Recording, Request, Waiter, WaitingList};
+use crate::{
+    Answer, Choice, End, Found, Job, Mismatch, Recording, Request, Waiter, WaitingList, find,
+};
 use race_legal::Replay;
 use race_records::{Decls, Kind, Trace};
 use std::alloc::{AllocError, Allocator, Global};
@@ -215,6 +217,19 @@ impl<R, A: Allocator> Hub<R, A> {
             } else {
                 None
             },
+        }
+    }
+
+    /// Whether there is a choice of this number, counted from 0; there is none where the hub has ended. Takes no memory.
+    pub fn has_choice(&self, number: u64) -> bool
+        ensures { result ≡ (is_none (stop_of self.now) && nat_lt number (length (choices_of self.now))) }
+    {
+        if self.stop().is_some() {
+            return false;
+        }
+        match find(&self.list(), number) {
+            Found::At(_) => true,
+            Found::Left(_) => false,
         }
     }
 

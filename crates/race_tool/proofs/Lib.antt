@@ -16,3 +16,5 @@ pub mod IntakeLemmas
 pub mod IntakeTurns
 pub mod PredictLemmas
 pub mod ExplainLemmas
+pub mod ListedLemmas
+pub mod ExploreLemmas

@@ -15,3 +15,4 @@ pub mod Intake
 pub mod Draw
 pub mod Predict
 pub mod Explain
+pub mod Explore

@@ -1,0 +1,14 @@
+mod ListLemmas
+mod TreeLemmas
+mod NextLemmas
+mod OneStep
+mod WayLemmas
+mod WalkLemmas
+mod ScriptLemmas
+mod AccessLemmas
+mod CountLemmas
+mod ElementLemmas
+mod TallyLemmas
+mod RacyLemmas
+mod NotingLemmas
+mod EndLemmas

@@ -1,0 +1,13 @@
+use Rattle.std.proofs.Common.{sym, ◌∙◌}
+use Rattle.race_explore.specs.declared.fault.ExploreFault.{ExploreFault}
+use Rattle.race_explore.proofs.EndLemmas.{room_for_one, passed_on}
+use Rattle.race_explore.proofs.walk.explore.Goals as goal
+
+pub look_at_next-requires-clause-few : goal.look_at_next-requires-clause-few
+look_at_next-requires-clause-few g c κs within =
+    room_for_one c.args.limit c.args.most c.loop-run._run c.loop-run.explored.runs (sym c.are_in_limits.ensures ∙ c.if-not-are_in_limits.false)
+    c.loop-run.invariant.runs c.loop-run-test.true
+
+pub returns-in_err-look_at_next-clause-refused : goal.returns-in_err-look_at_next-clause-refused
+returns-in_err-look_at_next-clause-refused g c =
+    passed_on c.from_residual.result c.in_err-look_at_next.field-0.0 ExploreFault.NotARun c.from_residual.ensures.1 c.in_err-look_at_next.ensures.refused

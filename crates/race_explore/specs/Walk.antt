@@ -1,0 +1,95 @@
+-- What it means that every run of a program was looked at. (Our own; compare The Go Memory Model, "Memory Model", requirement 1: each goroutine's
+-- execution)
+use Rattle.std.specs.Prelude.{ℕ, ◌≡◌, ◌⊎◌, ◌≤◌, ◌&&◌, nat_le, Bool, true, false, List, [], All, map, slice_get, Some}
+use Rattle.race_records.specs.declared.trace.TheConstants.{MAX_EVENTS}
+use Rattle.race_verdict.specs.Traces.{HasVerdict}
+use Rattle.race_hub.specs.{Finish.IsRecorded, Hub.HubState, Opening.IsOpening, Recording.RecordingState}
+use Rattle.race_record.specs.{declared.noting.Fork.Fork, Noting.IsNoting, Recorded.IsRecordingOf}
+use Rattle.race_record.specs.Serial.{IsSerial, IsTurnedAway, TakesTurn}
+use Rattle.race_script.specs.{Certificate.IsCertified, Program.ProgramState, Run.{ScriptState, Asks}}
+use Rattle.race_explore.specs.{Lists.{next_picks, IsLeft}, Ways.{Way, choice_count, IsNumbered, HasStopped}}
+use Rattle.race_explore.specs.Told.{AreRacy}
+pub use Rattle.race_explore.specs.Looked.{trace_of, Looked, looked_of, is_racy_verdict, is_clean_verdict, is_main_end, is_deadlock_end, is_fault_end, is_clean_run, Counts, AreAccesses, IsCounted, HasSameCounts, IsBounded}
+use Rattle.race_explore.specs.declared.{walk.TheConstants.MAX_RUNS, explored.Explored.Explored}
+
+-- a script for each goroutine, of which nothing was asked
+abbrev pub scripts_of : ProgramState → List ScriptState
+scripts_of program = map (λ body. record { whole = body; position = 0 }) program.bodies
+
+-- both limits are in their own
+abbrev pub are_explore_limits : ℕ → ℕ → Bool
+are_explore_limits limit most = (nat_le 1 limit && nat_le limit MAX_EVENTS) && (nat_le 1 most && nat_le most MAX_RUNS)
+
+module _ (program : ProgramState) (limit : ℕ) where
+  -- the hub of the program before its first event, which may make so many events
+  abbrev pub Opens : HubState ScriptState → Type 0
+  Opens hub = IsOpening program.decls limit (scripts_of program) hub
+
+  -- the run of the program by these picks, as it is recorded on one thread
+  pub record IsRunBy (picks : List ℕ) (r : RecordingState) : Type 0 where
+    pub hub : HubState ScriptState
+    pub opens : Opens hub
+    pub serial : IsSerial Asks picks hub r
+
+  -- so it is, and these are its events; it has what each recording has, and follows the program
+  pub record IsNotedRun (picks : List ℕ) (forks : List Fork) (r : RecordingState) : Type 0 where
+    pub hub : HubState ScriptState
+    pub opens : Opens hub
+    pub noting : IsNoting Asks picks hub forks r
+    pub serial : IsSerial Asks picks hub r
+    pub recording : IsRecordingOf hub r
+    pub certified : IsCertified program r
+
+  -- of the run by these picks there is no recording, or what was recorded isn't a run of the program
+  pub record IsRefused (picks : List ℕ) : Type 0 where
+    pub hub : HubState ScriptState
+    pub opens : Opens hub
+    pub refused : IsTurnedAway Asks picks hub ⊎ ((r : RecordingState) × IsSerial Asks picks hub r × (IsCertified program r → ⊥))
+
+-- a way of the program's hub, by the numbers of choices, to its end
+abbrev pub RunsFrom : HubState ScriptState → List Fork → HubState ScriptState → Type 0
+RunsFrom hub forks h = Way (TakesTurn Asks) IsNumbered choice_count hub forks h × HasStopped h
+
+-- the run that ends there was seen
+abbrev pub IsSeen : HubState ScriptState → List Looked → Type 0
+IsSeen h seen = (k : ℕ) × (looked : Looked) × (slice_get seen k ≡ Some looked) × IsRecorded h looked.run
+
+module _ (program : ProgramState) (limit : ℕ) where
+  -- it is the run of the program by its picks, and the verdict is right
+  pub record IsLooked (looked : Looked) : Type 0 where
+    pub run : IsRunBy program limit looked.picks looked.run
+    pub certified : IsCertified program looked.run
+    pub verdict : HasVerdict (trace_of looked.run) looked.verdict
+
+  -- every run was looked at: whatever run a list of picks leads to is among those that were seen
+  abbrev pub EachRun : List Looked → Type 0
+  EachRun seen = (picks : List ℕ) (r : RecordingState) → IsRunBy program limit picks r
+      → (k : ℕ) × (looked : Looked) × (slice_get seen k ≡ Some looked) × (looked.run ≡ r)
+
+  -- what the runs come to: these were looked at, and counted; all of them, or as many as were wanted
+  pub record IsExplored {A : Type 0} (most : ℕ) (e : Explored A) : Type 0 where
+    pub seen : List Looked
+    pub looked : All IsLooked seen
+    pub counts : Counts seen e
+    pub racy : AreRacy seen e.racy.items
+    pub whole : e.whole ≡ true → EachRun seen
+    pub stopped : e.whole ≡ false → e.runs ≡ most
+
+  -- the walk has come so far: each run was seen, or is left to the picks, which are none, or come next after those of a run
+  pub record IsWalked {A : Type 0} (picks : List ℕ) (e : Explored A) : Type 0 where
+    pub seen : List Looked
+    pub looked : All IsLooked seen
+    pub counts : Counts seen e
+    pub racy : AreRacy seen e.racy.items
+    pub left : (hub h : HubState ScriptState) (forks : List Fork) → Opens program limit hub → RunsFrom hub forks h → IsSeen h seen ⊎ IsLeft picks forks
+    pub follows : (hub : HubState ScriptState) → Opens program limit hub
+        → (picks ≡ []) ⊎ ((forks : List Fork) × (h : HubState ScriptState) × RunsFrom hub forks h × (next_picks forks ≡ Some picks))
+    pub few : All (λ pick. pick ≤ e.runs) picks
+
+  -- and has come to its end
+  pub record IsWalkedOut {A : Type 0} (e : Explored A) : Type 0 where
+    pub seen : List Looked
+    pub looked : All IsLooked seen
+    pub counts : Counts seen e
+    pub racy : AreRacy seen e.racy.items
+    pub each : EachRun seen

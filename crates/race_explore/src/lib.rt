@@ -1,0 +1,16 @@
+//! All runs of a program, one after another: which variables race in them, and how they end.
+#![tactic(auto)]
+
+mod explored;
+mod fault;
+mod odometer;
+mod places;
+mod reported;
+mod stuck;
+mod walk;
+mod walked;
+
+pub use explored::{Explored, RacyVariable};
+pub use fault::ExploreFault;
+pub use stuck::{BadEnd, Standing};
+pub use walk::{MAX_RUNS, explore};

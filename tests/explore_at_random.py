@@ -1,0 +1,147 @@
+#!/usr/bin/env python3
+"""Compares what `gorace explore` says of small random programs with all their runs, by tests/explorations.py.
+
+    tests/explore_at_random.py [--program PROGRAM] [--seed N] [--count N]
+
+A round is a program of some steps in two goroutines or three, now and then with a limit on events. How many runs there are, of each
+variable in how many it has a race, and of each end how many have it, has to be the same; and `gorace race` by the picks of each line
+has to show what the line says. Then as many runs are asked for as there are, and one fewer. What differs is printed with the input.
+The last line is `N passed, M failed`."""
+
+import argparse
+import os
+import random
+import re
+import subprocess
+import sys
+from collections import Counter
+from concurrent.futures import ProcessPoolExecutor
+from functools import partial
+
+import explorations
+import graph
+from at_random import PROGRAM, Gorace, Wrong
+
+USUAL = 500
+MOST = 3000
+DECLARED = ["var x", "var y", "chan d 0", "chan c 1", "mutex m", "rwmutex r", "once o"]
+ACCESSES = ["read x", "write x 1", "read x", "write x 3", "read y", "write y 2"]
+STEPS = """send d 1|recv d|send c 2|recv c|close c|lock m;write x 4;unlock m|lock m;read x;unlock m|lock m|unlock m|rlock r;read y;runlock r
+lock r;write y 5;unlock r|do o;write x 6;enddo o|do o;read x;enddo o|select send:d:6,recv:c default|select recv:d,send:c:7 default
+select recv:d,recv:c block|select send:d:1,recv:d block|select - default|select recv:c,recv:c block|select recv:d default|select send:d:8 default"""
+PAIRS = ["send d 1", "recv d"], ["send c 2", "recv c"], ["lock m;write x 4;unlock m", "lock m;read x;unlock m"], ["close c", "recv c"], ["do o;write x 6;enddo o"]
+SELDOM = "close d|recv nil|send nil 1|close nil|runlock r".split("|")
+TRIES = "trylock m;write x 7|tryrlock r;read y|trylock m|trylock r;unlock r|trylock m;unlock m"
+RACE = re.compile(r"race on (\w+) in (\d+) of (\d+) runs: (\w+ by \w+ at \S+), (\w+ by \w+ at \S+); with --picks ([0-9,]+)")
+END = re.compile(r"(fault|deadlock|limit) in (\d+) of (\d+) runs(?:: (.*))?; with --picks ([0-9,]+)")
+ENOUGH = 15
+
+
+def program(chance):
+    """Returns a program of up to eight steps, starts and exits not counted, of a few kinds."""
+    version = chance.choice((1, 2, 2))
+    steps = STEPS.replace("\n", "|").split("|") + (TRIES.split("|") * 3 if version == 2 else [])
+    pool = ACCESSES * 2 + chance.sample(steps, 3) + chance.choice(PAIRS) * 3 + chance.choice(PAIRS) + chance.sample(SELDOM, chance.random() < 0.1)
+    others = ["a", "b"][: chance.choice((1, 1, 2))]
+    lines = [f"goprogram {version}", *(f"goroutine {who}" for who in others), *DECLARED]
+    place = iter(range(1, 100))
+    for who in ["main", *others]:
+        body, share = [], chance.randrange(1, 9 // (len(others) + 1) + 1)
+        while len(body) < share:
+            body += chance.choice(pool).split(";")
+        starts = [f"go {it}" for it in others] if who == "main" else []
+        lines += [f"body {who}", *(f"{step} p:{next(place)}" for step in [*starts, *body, "exit"])]
+    return "\n".join(lines) + "\n"
+
+
+def look_at_lines(gorace, text, lines, line):
+    """Asks for the run of each line by its picks, and returns what the lines count."""
+    races, ends = Counter(), Counter()
+    limit = line[line.index("--limit") :][:2] if "--limit" in line else []
+    for told in lines:
+        if race := RACE.fullmatch(told):
+            races[race[1]] = int(race[2])
+            report, status = gorace.told(text.encode(), "race", "--picks", race[6], *limit)
+            wanted = rf"race on {race[1]}: {re.escape(race[4])} \(event \d+\), {re.escape(race[5])} \(event \d+\)\n"
+            if status != 66 or not re.search(wanted, report):
+                raise Wrong(["race", "--picks", race[6]], text.encode(), report, told)
+        elif end := END.fullmatch(told):
+            ends[end[1], end[4] or ""] = int(end[2])
+            report, status = gorace.told(text.encode(), "race", "--picks", end[5], *limit)
+            if not report.endswith(f"end: {end[1]}\n"):
+                raise Wrong(["race", "--picks", end[5]], text.encode(), report, told)
+        else:
+            raise Wrong(line, text.encode(), told, "a line of a race or of an end")
+    return races, ends
+
+
+def compare(gorace, seed, number, seen):
+    chance = random.Random(f"{seed} {number}")
+    while True:
+        text, limit = program(chance), chance.choice((100, 100, 100, 3, 5))
+        try:
+            wanted = explorations.Explored(text, limit, MOST)
+            break
+        except explorations.TooMany:
+            seen["too many"] += 1
+    line = ["explore"] + (["--limit", str(limit)] if limit < 100 else [])
+    told, status = gorace.told(text.encode(), *line)
+    *lines, counts = told.splitlines() or [""]
+    if (counts, status) != (wanted.counts(), wanted.status()):
+        raise Wrong(line, text.encode(), (told, status), (wanted.counts(), wanted.status()))
+    found = look_at_lines(gorace, text, lines, line)
+    if found != (wanted.races, wanted.ends) or len(lines) != len(wanted.races) + len(wanted.ends):
+        raise Wrong(line, text.encode(), told, (wanted.races, wanted.ends))
+    gorace.tells((told, status), text.encode(), *line, "--runs", str(wanted.runs))
+    if wanted.runs > 1:
+        fewer = wanted.runs - 1
+        told, _ = gorace.told(text.encode(), *line, "--runs", str(fewer))
+        if f"stopped after {fewer} runs\nruns: {fewer}, " not in told:
+            raise Wrong([*line, "--runs", str(fewer)], text.encode(), told, f"that it stops after {fewer}")
+    seen.update(wanted.words.keys())
+    seen.update({what for what, _ in wanted.ends})
+    seen.update({"racy": bool(wanted.racy), "some racy": 0 < wanted.racy < wanted.runs, "clean": wanted.clean == wanted.runs})
+    seen["runs"] += wanted.runs
+
+
+def round_of(number, program, seed):
+    """Returns what was seen in the round, and what is wrong, if anything is."""
+    seen = Counter()
+    try:
+        compare(Gorace(program), seed, number, seen)
+    except (Wrong, subprocess.TimeoutExpired) as wrong:
+        return seen, f"FAILED round {number} of seed {seed}: {wrong}"
+    return seen, ""
+
+
+def missed(seen, count):
+    """Gives what so many rounds should have met, and didn't often enough."""
+    if count >= USUAL:
+        yield from (f"no round met {word}" for word in graph.WORDS if not seen[word])
+        wanted = ("fault", "deadlock", "limit", "some racy", "clean")
+        yield from (f"only {seen[it]} rounds met {it}" for it in wanted if seen[it] < ENOUGH)
+
+
+def main():
+    parser = argparse.ArgumentParser(description=__doc__, formatter_class=argparse.RawDescriptionHelpFormatter)
+    parser.add_argument("--program", default=PROGRAM)
+    parser.add_argument("--seed", type=int, default=1)
+    parser.add_argument("--count", type=int, default=USUAL)
+    given = parser.parse_args()
+    path = os.path.realpath(given.program)
+    if not os.access(path, os.X_OK):
+        sys.exit(f"tests/explore_at_random.py: {path} can't be run: build it by ./gorace, or name another by --program")
+    with ProcessPoolExecutor(os.cpu_count()) as pool:
+        rounds = [*pool.map(partial(round_of, program=path, seed=given.seed), range(given.count), chunksize=8)]
+    seen = sum((it for it, _ in rounds), Counter())
+    failed = [wrong for _, wrong in rounds if wrong]
+    failed += [f"FAILED: {it}" for it in missed(seen, given.count) if not failed]
+    for wrong in failed:
+        print(wrong)
+    print(f"{seen['runs']} runs of {given.count} programs: {seen['some racy']} with a race in some runs and not in others, {seen['clean']} clean")
+    print(f"{given.count - len(failed)} passed, {len(failed)} failed")
+    return 1 if failed else 0
+
+
+if __name__ == "__main__":
+    sys.exit(main())

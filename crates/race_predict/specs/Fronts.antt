@@ -1,9 +1,9 @@
 -- How far a list of events has come along the goroutines' recorded executions.
-use Rattle.std.specs.Prelude.{ℕ, ◌≡◌, ◌<◌, ◌+◌, ◌==◌, if◌then◌else◌, min, List, length, take, slice_get, slice_set}
+use Rattle.std.specs.Prelude.{ℕ, ◌≡◌, ◌<◌, ◌+◌, ◌==◌, IsTrue, if◌then◌else◌, min, List, length, take, slice_get, slice_set}
 use Rattle.std.specs.Prelude.{Option, Some, None}
 use Rattle.std.specs.List.{slice_index_or}
 use Rattle.race_records.specs.declared.event.Event.{Event}
-use Rattle.race_model.specs.{Events.{At, partner}, Clocks.participations}
+use Rattle.race_model.specs.{Events.{At, partner, takes_part}, Clocks.participations}
 use Rattle.race_predict.specs.declared.positions.Position.{Position}
 
 -- of each goroutine that has a row, so many events stand in the list
@@ -32,3 +32,7 @@ pub record IsPosition (events : List Event) (i : ℕ) (e : Event) (p : Position)
 pub record ArePositions (events : List Event) (n : ℕ) (positions : List Position) : Type 0 where
   pub as_many : length positions ≡ n
   pub each : (i : ℕ) (e : Event) (p : Position) → At events i e → slice_get positions i ≡ Some p → IsPosition events i e p
+
+-- of each that takes part in event e, as many events stand in the list as stood before it, at index i, among the recorded ones
+abbrev pub IsNext : List Event → List Event → ℕ → Event → Type 0
+IsNext recorded past i e = (g : ℕ) → IsTrue (takes_part g e) → participations g past ≡ participations g (take i recorded)

@@ -1,23 +1,21 @@
 //! A run that is put together event by event, each tested as it comes.
-ghost use Rattle.std.specs.Prelude.{◌≡◌, ◌<◌, ◌+◌, ◌++◌, ◌∷◌, [], ℕ, length, take, drop, slice_get, IfOk, OnOk, IsTrue};
-ghost use Rattle.std.specs.Prelude.{◌||◌, ◌≢◌, Some, vec_len};
-ghost use Rattle.race_records.specs.{declared.kind.Kind.Kind, Declarations.count_of};
+ghost use Rattle.std.specs.Prelude.{◌≡◌, ◌≢◌, ◌<◌, ◌≤◌, ◌+◌, ◌||◌, [], ℕ, length, take, IfOk, OnOk, IsTrue};
+ghost use Rattle.race_records.specs.declared.{kind.Kind.Kind, trace.TheConstants.MAX_EVENTS};
 ghost use Rattle.race_model.specs.{Events.{accesses, writes}, Predict.told};
-ghost use Rattle.race_legal.specs.StandsFor.{StandsFor};
-ghost use Rattle.race_predict.specs.{Fronts.ArePositions, Attempts.IsAttempt, Certified.IsRunWithRace};
+ghost use Rattle.race_legal.specs.{ReplayState.{IsInRange, counts_in}, StandsFor.GoesOn};
+ghost use Rattle.race_predict.specs.{Fronts.ArePositions, Attempts.{IsAttempt, run_with}, Certified.IsRunWithRace};
 
 use crate::fault::PredictFault;
-use crate::parts::{self, copy, count_parts};
+use crate::parts::{self, count_parts};
 use crate::positions::{Position, is_next, position_at};
 use race_legal::{Broken, Replay};
-use race_records::{Event, Kind, MAX_EVENTS, Op, PushFault, Trace};
+use race_records::{Event, Kind, Op, Trace};
 use std::alloc::{AllocError, Allocator, Global};
 use std::marker::Model;
 
-/// The events so far: as a replay, which tests the next one, as a trace, and counted for each goroutine.
+/// The events so far: as a replay, which tests the next one, and counted for each goroutine.
 pub(crate) struct Attempt<A: Allocator = Global> {
     replay: Replay<A>,
-    trace: Trace<A>,
     taken: Vec<u32, A>,
 }
 
@@ -25,7 +23,6 @@ impl<A: Allocator> Drop for Attempt<A> {
     fn drop(self) {
         let Attempt {
             replay: _,
-            trace: _,
             taken: _,
         } = self;
     }
@@ -36,7 +33,16 @@ impl<A: Allocator> Model for Attempt<A> {
 
     ghost Value = { AttemptState };
 
-    ghost view = { λ a. record { replay = a.replay; trace = a.trace; taken = a.taken.items } };
+    ghost view = { λ a. record { replay = a.replay; taken = a.taken.items } };
+}
+
+/// The last two events of a run, with what they find.
+#[derive(Drop)]
+pub(crate) struct LastTwo {
+    /// The last but one.
+    pub(crate) first: Event,
+    /// The last.
+    pub(crate) second: Event,
 }
 
 /// Whether the two are accesses of the variable by two goroutines, and one of them writes.
@@ -71,6 +77,41 @@ fn accesses(op: &Op, var: u32) -> bool
     }
 }
 
+// The event comes, if it breaks no rule.
+fn accept<A: Allocator>(replay: &mut Replay<A>, event: &Event) -> Result<(), PredictFault>
+    requires range { IsInRange (counts_in replay.old) event.now }
+    requires room { replay.old.len < MAX_EVENTS }
+    ensures goes_on { OnOk result (GoesOn replay.old replay.new event.now) }
+    ensures len { OnOk result (replay.new.len ≡ replay.old.len + 1) }
+    ensures counts { counts_in replay.new ≡ counts_in replay.old }
+{
+    match replay.accept(event) {
+        Ok(()) => {}
+        Err(Broken::Rule(_)) => return Err(PredictFault::NotAPrediction),
+        Err(Broken::OutOfMemory) => return Err(PredictFault::OutOfMemory),
+    }
+    Ok(())
+}
+
+// The same, where a read finds the variable's last value. Gives the event.
+fn accept_told<A: Allocator>(
+    replay: &mut Replay<A>,
+    event: &Event,
+    var: u32,
+) -> Result<Event, PredictFault>
+    requires range { (v : ℕ) → IsInRange (counts_in replay.old) (told v event.now) }
+    requires var { var < counts_in replay.old Kind.Var }
+    requires room { replay.old.len < MAX_EVENTS }
+    ensures told { IfOk result (λ found. (v : ℕ) × (found ≡ told v event.now)) }
+    ensures goes_on { IfOk result (λ found. GoesOn replay.old replay.new found) }
+    ensures len { IfOk result (λ _. replay.new.len ≡ replay.old.len + 1) }
+    ensures counts { counts_in replay.new ≡ counts_in replay.old }
+{
+    let found = parts::told(event, replay.last_value(var));
+    accept(replay, &found)?;
+    Ok(found)
+}
+
 impl<A: Allocator + Copy> Attempt<A> {
     /// Before the first event, under the declarations of the recorded trace.
     pub(crate) fn new(alloc: A, recorded: &Trace<A>) -> Result<Attempt<A>, AllocError>
@@ -78,35 +119,8 @@ impl<A: Allocator + Copy> Attempt<A> {
     {
         Ok(Attempt {
             replay: Replay::new(alloc, recorded.decls())?,
-            trace: Trace::new(recorded.decls().copy()?),
             taken: vec![in alloc; 0u32; recorded.decls().count(Kind::Goroutine) as usize]?,
         })
-    }
-
-    // Puts an event last, where the longer list is legal.
-    fn put(&mut self, event: Event) -> Result<(), PredictFault>
-        requires { StandsFor self.old.trace.decls.declarations self.old.replay self.old.trace.events }
-        ensures events { OnOk result (self.new.trace.events ≡ self.old.trace.events ++ event ∷ []) }
-        ensures decls { OnOk result (self.new.trace.decls ≡ self.old.trace.decls) }
-        ensures stands { OnOk result
-            (StandsFor self.new.trace.decls.declarations self.new.replay self.new.trace.events) }
-        ensures taken { self.new.taken ≡ self.old.taken }
-        ensures room { OnOk result (length self.old.trace.events < MAX_EVENTS) }
-    {
-        if !self.trace.decls().fits(&event) || self.trace.len() >= MAX_EVENTS {
-            return Err(PredictFault::NotAPrediction);
-        }
-        match self.replay.accept(&event) {
-            Ok(()) => {}
-            Err(Broken::Rule(_)) => return Err(PredictFault::NotAPrediction),
-            Err(Broken::OutOfMemory) => return Err(PredictFault::OutOfMemory),
-        }
-        match self.trace.push(event) {
-            Ok(()) => {}
-            Err(PushFault::OutOfMemory) => return Err(PredictFault::OutOfMemory),
-            Err(_) => return Err(PredictFault::NotAPrediction),
-        }
-        Ok(())
     }
 
     /// Puts the recorded event whose index stands at `k` behind those before it: where the list stays legal, and of each that takes part
@@ -119,6 +133,7 @@ impl<A: Allocator + Copy> Attempt<A> {
         k: usize,
     ) -> Result<(), PredictFault>
         requires k { k < length order.now }
+        requires room { length order.now ≤ MAX_EVENTS }
         requires positions { ArePositions recorded.now.events (length recorded.now.events) positions.now }
         requires attempt { IsAttempt recorded.now (take k order.now) self.old }
         ensures { OnOk result (IsAttempt recorded.now (take (k + 1) order.now) self.new) }
@@ -132,24 +147,9 @@ impl<A: Allocator + Copy> Attempt<A> {
         if !is_next(&self.taken, position, event) {
             return Err(PredictFault::NotAPrediction);
         }
-        self.put(copy(event))?;
+        accept(&mut self.replay, event)?;
         count_parts(&mut self.taken, event);
         Ok(())
-    }
-
-    // Puts the event last, where the longer list is legal; a read finds the variable's last value.
-    fn put_told(&mut self, event: &Event, var: u32) -> Result<(), PredictFault>
-        requires var { var < count_of Kind.Var self.old.trace.decls.declarations }
-        requires stands { StandsFor self.old.trace.decls.declarations self.old.replay self.old.trace.events }
-        ensures events { OnOk result
-            ((v : ℕ) × (self.new.trace.events ≡ self.old.trace.events ++ told v event.now ∷ [])) }
-        ensures decls { OnOk result (self.new.trace.decls ≡ self.old.trace.decls) }
-        ensures stands { OnOk result
-            (StandsFor self.new.trace.decls.declarations self.new.replay self.new.trace.events) }
-        ensures taken { self.new.taken ≡ self.old.taken }
-    {
-        let value = self.replay.last_value(var);
-        self.put(parts::told(event, value))
     }
 
     /// Puts the last two recorded events of the order behind the others: two accesses of the variable that race where they stand now.
@@ -160,11 +160,12 @@ impl<A: Allocator + Copy> Attempt<A> {
         order: &[u32],
         k: usize,
         var: u32,
-    ) -> Result<(), PredictFault>
+    ) -> Result<LastTwo, PredictFault>
         requires k { k + 2 ≡ length order.now }
+        requires room { length order.now ≤ MAX_EVENTS }
         requires positions { ArePositions recorded.now.events (length recorded.now.events) positions.now }
         requires attempt { IsAttempt recorded.now (take k order.now) self.old }
-        ensures { OnOk result (IsRunWithRace recorded.now var order.now self.new.trace) }
+        ensures { IfOk result (λ last. IsRunWithRace recorded.now var order.now (run_with recorded.now (take k order.now) last)) }
     {
         let i = order[k] as usize;
         let j = order[k + 1] as usize;
@@ -181,20 +182,8 @@ impl<A: Allocator + Copy> Attempt<A> {
         {
             return Err(PredictFault::NotAPrediction);
         }
-        self.put_told(first, var)?;
-        self.put_told(second, var)?;
-        Ok(())
-    }
-
-    /// The events, as a trace.
-    pub(crate) fn into_trace(self) -> Trace<A>
-        ensures { result ≡ self.trace }
-    {
-        let Attempt {
-            replay: _,
-            trace,
-            taken: _,
-        } = self;
-        trace
+        let first = accept_told(&mut self.replay, first, var)?;
+        let second = accept_told(&mut self.replay, second, var)?;
+        Ok(LastTwo { first, second })
     }
 }

@@ -1,15 +1,16 @@
 //! The certificate of a prediction: a run of the same goroutines, tested event by event.
-ghost use Rattle.std.specs.{Prelude.{◌≡◌, ◌==◌, ℕ, List, length, IfOk, IfSome, false}, List.list_any};
+ghost use Rattle.std.specs.{Prelude.{◌≡◌, ◌==◌, ◌-◌, ◌++◌, ◌∷◌, [], ℕ, List, length, take, IfOk, OnOk, IfSome, false}, List.list_any};
 ghost use Rattle.race_records.specs.declared.event.Event.{Event};
 ghost use Rattle.race_model.specs.{Race.IsRace, Verdict.IsVerdict};
 ghost use Rattle.race_verdict.specs.{Traces.HasVerdict, Verdicts.verdict_of};
-ghost use Rattle.race_predict.specs.{Certified.{IsCertificate, IsPredicted, IsRunWithRace}, Fronts.ArePositions};
+ghost use Rattle.race_predict.specs.{Attempts.run_with, Certified.{IsCertificate, IsMadeOf, IsPredicted}, Fronts.ArePositions};
 
-use crate::attempt::Attempt;
+use crate::attempt::{Attempt, LastTwo};
 use crate::fault::PredictFault;
+use crate::parts::copy;
 use crate::positions::{Position, positions_of};
 use crate::prediction::Prediction;
-use race_records::Trace;
+use race_records::{Event, MAX_EVENTS, Trace};
 use race_verdict::{Race, Verdict};
 use std::alloc::{AllocError, Allocator};
 
@@ -27,17 +28,22 @@ pub fn certificate<A: Allocator + Copy>(
     requires { HasVerdict recorded.now (verdict_of verdict.now) }
     ensures { IfOk result (IsCertificate recorded.now prediction.now.var prediction.now.order.items) }
 {
-    if may_race(verdict, prediction.var) {
-        return Err(PredictFault::NotAPrediction);
-    }
     let positions = positions_of(alloc, recorded)?;
     let order = prediction.order.as_slice();
-    let trace = certify(alloc, recorded, positions.as_slice(), prediction.var, order)?;
+    let last = test(
+        alloc,
+        recorded,
+        verdict,
+        positions.as_slice(),
+        prediction.var,
+        order,
+    )?;
+    let trace = trace_of(recorded, order, last)?;
     Ok(trace)
 }
 
 /// The prediction that these recorded events make, if they pass the test of `certificate`. The verdict is that on the recorded trace. Takes
-/// what `certificate` takes.
+/// time in proportion to the events of the order, and no memory for each.
 pub fn tested<A: Allocator + Copy>(
     alloc: A,
     recorded: &Trace<A>,
@@ -52,10 +58,7 @@ pub fn tested<A: Allocator + Copy>(
     ensures var { IfOk result (λ found. IfSome found (λ p. p.var ≡ var)) }
     ensures order { IfOk result (λ found. IfSome found (λ p. p.order ≡ order)) }
 {
-    if may_race(verdict, var) {
-        return Ok(None);
-    }
-    match certify(alloc, recorded, positions, var, order.as_slice()) {
+    match test(alloc, recorded, verdict, positions, var, order.as_slice()) {
         Ok(_) => Ok(Some(Prediction { var, order })),
         Err(PredictFault::OutOfMemory) => Err(AllocError),
         Err(PredictFault::NotAPrediction) => Ok(None),
@@ -80,18 +83,21 @@ fn is_raced(races: &[Race], var: u32) -> bool
     races.iter().any(|race| race.var == var)
 }
 
-// The run of these recorded events, tested event by event.
-fn certify<A: Allocator + Copy>(
+// Tests the run of these recorded events, one by one, and gives the last two.
+fn test<A: Allocator + Copy>(
     alloc: A,
     recorded: &Trace<A>,
+    verdict: &Verdict<A>,
     positions: &[Position],
     var: u32,
     order: &[u32],
-) -> Result<Trace<A>, PredictFault>
-    requires { ArePositions recorded.now.events (length recorded.now.events) positions.now }
-    ensures { IfOk result (IsRunWithRace recorded.now var order.now) }
+) -> Result<LastTwo, PredictFault>
+    requires verdict { HasVerdict recorded.now (verdict_of verdict.now) }
+    requires positions { ArePositions recorded.now.events (length recorded.now.events) positions.now }
+    ensures { IfOk result (λ last. IsCertificate recorded.now var order.now
+        (run_with recorded.now (take (length order.now - 2) order.now) last)) }
 {
-    if order.len() < 2 {
+    if may_race(verdict, var) || order.len() < 2 || order.len() > MAX_EVENTS {
         return Err(PredictFault::NotAPrediction);
     }
     let before = order.len() - 2;
@@ -99,6 +105,37 @@ fn certify<A: Allocator + Copy>(
     for k in 0..before {
         attempt.add(recorded, positions, order, k)?;
     }
-    attempt.end(recorded, positions, order, before, var)?;
-    Ok(attempt.into_trace())
+    attempt.end(recorded, positions, order, before, var)
+}
+
+// The run of these recorded events, but for the last two, as a trace.
+fn trace_of<A: Allocator + Copy>(
+    recorded: &Trace<A>,
+    order: &[u32],
+    last: LastTwo,
+) -> Result<Trace<A>, AllocError>
+    requires { IsMadeOf recorded.now.events order.now (run_with recorded.now (take (length order.now - 2) order.now) last).events }
+    ensures decls { IfOk result (λ trace. trace.decls ≡ recorded.now.decls) }
+    ensures events { IfOk result (λ trace. trace.events
+        ≡ (run_with recorded.now (take (length order.now - 2) order.now) last).events) }
+{
+    let mut trace = Trace::new(recorded.decls().copy()?);
+    for k in 0..order.len().saturating_sub(2) {
+        put(&mut trace, copy(recorded.event(order[k] as usize)))?;
+    }
+    let LastTwo { first, second } = last;
+    put(&mut trace, first)?;
+    put(&mut trace, second)?;
+    Ok(trace)
+}
+
+// Puts an event last. It was tested, so nothing but memory can be wanting.
+fn put<A: Allocator>(trace: &mut Trace<A>, event: Event) -> Result<(), AllocError>
+    ensures events { OnOk result (trace.new.events ≡ trace.old.events ++ event ∷ []) }
+    ensures decls { OnOk result (trace.new.decls ≡ trace.old.decls) }
+{
+    match trace.push(event) {
+        Ok(()) => Ok(()),
+        Err(_) => Err(AllocError),
+    }
 }

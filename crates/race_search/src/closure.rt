@@ -1,8 +1,8 @@
 //! The events that two accesses want before them in another run. Nothing is proved of it but that it returns: what the search proposes is
 //! tested.
 
+use crate::rows::{NONE, push_row, row, rows_of, set_row};
 use crate::steps::{Ask, Part, Step, Steps};
-use crate::wants::{NONE, push_row, row, rows_of, set_row};
 use race_records::{Kind, Trace};
 use std::alloc::{AllocError, Allocator, Global};
 
@@ -13,10 +13,10 @@ struct Change {
     old: u32,
 }
 
-/// A set of events: of each goroutine the first ones, so many. It has with each event what the event wants.
+/// A set of events: of each goroutine those before some index. It has with each event what the event wants.
 ///
-/// All that changes stands in rows of one table, so that a trial is taken back by a list of changes. Of each goroutine: how many events are in,
-/// and its next step. Of each lock: the latest section that began, and the latest that isn't for reading alone, as index + 1; the step of a section
+/// All that changes stands in rows of one table, so that a trial is taken back by a list of changes. Of each goroutine: before which index its
+/// events are in, and its next step. Of each lock: the latest section that began, and the latest that isn't for reading alone, as index + 1; the step of a section
 /// that is open; a list of those that are open for reading. Of each channel: sends of a lower number are received; how many are open, the
 /// oldest and the newest. Of each step the next one of such a list.
 #[derive(Drop)]
@@ -41,17 +41,13 @@ const LAST: u32 = NONE - 1;
 
 impl<A: Allocator + Copy> Closure<A> {
     /// No event.
-    pub(crate) fn new(
-        alloc: A,
-        trace: &Trace<A>,
-        steps: &Steps<A>,
-    ) -> Result<Closure<A>, AllocError> {
+    pub(crate) fn new(alloc: A, trace: &Trace<A>) -> Result<Closure<A>, AllocError> {
         let goroutines = trace.decls().count(Kind::Goroutine);
         let locks = goroutines.saturating_mul(2);
         let chans = locks.saturating_add(trace.decls().count(Kind::Lock).saturating_mul(4));
         let links = chans.saturating_add(trace.decls().count(Kind::Chan).saturating_mul(4));
-        let mut closure = Closure {
-            cells: rows_of(alloc, (links as usize).saturating_add(steps.len()), NONE)?,
+        Ok(Closure {
+            cells: rows_of(alloc, links as usize, NONE)?,
             changes: Vec::new(alloc),
             is_trial: false,
             waiting: LAST,
@@ -61,9 +57,16 @@ impl<A: Allocator + Copy> Closure<A> {
             links,
             keeps_order: true,
             taken: 0,
-        };
-        closure.clear(steps);
-        Ok(closure)
+        })
+    }
+
+    /// Makes room for all steps.
+    pub(crate) fn make_room(&mut self, steps: &Steps<A>) -> Result<(), AllocError> {
+        let cells = (self.links as usize).saturating_add(steps.len());
+        for _ in self.cells.len()..cells {
+            self.cells.push(NONE)?;
+        }
+        Ok(())
     }
 
     /// Becomes empty.
@@ -122,22 +125,22 @@ impl<A: Allocator + Copy> Closure<A> {
         self.is_trial = false;
     }
 
-    /// How many of the goroutine's events are in.
+    /// Before which index the goroutine's events are in.
     pub(crate) fn front(&self, goroutine: u32) -> u32 {
         row(&self.cells, goroutine)
     }
 
     /// Whether these events are in.
     pub(crate) fn has(&self, part: Part) -> bool {
-        part.len <= self.front(part.who)
+        part.end <= self.front(part.who)
     }
 
     /// These events come in, where there are any.
     pub(crate) fn ask(&mut self, part: Part) -> Result<(), AllocError> {
-        if part.len == NONE || part.len <= self.front(part.who) {
+        if part.end == NONE || part.end <= self.front(part.who) {
             return Ok(());
         }
-        self.set(part.who, part.len)?;
+        self.set(part.who, part.end)?;
         if row(&self.next_waiting, part.who) == NONE {
             set_row(&mut self.next_waiting, part.who, self.waiting);
             self.waiting = part.who;
@@ -147,10 +150,10 @@ impl<A: Allocator + Copy> Closure<A> {
 
     /// All before the last event of the part come in, with what they want.
     pub(crate) fn ask_before(&mut self, steps: &Steps<A>, part: Part) -> Result<(), AllocError> {
-        if part.len != NONE {
+        if part.end != NONE {
             self.ask(Part {
                 who: part.who,
-                len: part.len.saturating_sub(1),
+                end: part.end.saturating_sub(1),
             })?;
         }
         self.run(steps)
@@ -176,7 +179,7 @@ impl<A: Allocator + Copy> Closure<A> {
         let mut i = row(&self.cells, cursor);
         for _ in 0..u64::MAX {
             let step = steps.step(i);
-            if step.own.len > self.front(goroutine) {
+            if step.own.end > self.front(goroutine) {
                 break;
             }
             self.taken = self.taken.saturating_add(1);

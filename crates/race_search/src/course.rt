@@ -1,6 +1,6 @@
 //! Which recorded event can come next in another order. Nothing is proved of it but that it returns: what the search proposes is tested.
 
-use crate::wants::{NONE, row, rows_of, set_row};
+use crate::rows::{NONE, fill, lower, raise, row, rows_of, set_row};
 use race_records::{Cases, Dir, Kind, Op, Trace};
 use std::alloc::{AllocError, Allocator, Global};
 
@@ -19,25 +19,6 @@ pub(crate) struct Course<A: Allocator = Global> {
     held: Vec<u32, A>,
     readers: Vec<u32, A>,
     ended: Vec<u32, A>,
-}
-
-/// Puts one number into all rows.
-pub(crate) fn fill<A: Allocator>(rows: &mut Vec<u32, A>, value: u32) {
-    for cell in rows.iter_mut() {
-        *cell = value;
-    }
-}
-
-/// One more in a row.
-pub(crate) fn raise<A: Allocator>(rows: &mut Vec<u32, A>, i: u32) {
-    let old = row(rows, i);
-    set_row(rows, i, old.saturating_add(1));
-}
-
-/// One less in a row.
-pub(crate) fn lower<A: Allocator>(rows: &mut Vec<u32, A>, i: u32) {
-    let old = row(rows, i);
-    set_row(rows, i, old.saturating_sub(1));
 }
 
 // The value that the event reads, writes, sends or receives.

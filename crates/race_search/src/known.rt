@@ -1,7 +1,7 @@
-//! What each goroutine's next event always wants: of each goroutine so many events. Nothing is proved of it but that it returns.
+//! What each goroutine's next event always wants: of each goroutine those before an event. Nothing is proved of it but that it returns.
 
+use crate::rows::{NONE, row, rows_of, set_row};
 use crate::steps::Part;
-use crate::wants::{NONE, row, rows_of, set_row};
 use std::alloc::{AllocError, Allocator, Global};
 
 /// How many numbers the clocks may take for each event; where there are more, less is known.
@@ -54,14 +54,41 @@ impl<A: Allocator + Copy> Known<A> {
         }
     }
 
-    fn raise(&mut self, clock: u32, goroutine: u32, len: u32) {
+    fn raise(&mut self, clock: u32, goroutine: u32, end: u32) {
         let cell = self.cell(clock, goroutine);
-        if cell < self.table.len() && self.table[cell] < len {
-            self.table[cell] = len;
+        if cell < self.table.len() && self.table[cell] < end {
+            self.table[cell] = end;
         }
     }
 
-    /// How many events of the other one are known to the goroutine.
+    // The first clock knows what the other does, too.
+    fn join(&mut self, clock: u32, other: u32) {
+        let to = self.cell(clock, 0);
+        let from = self.cell(other, 0);
+        for k in 0..self.width as usize {
+            let (to, from) = (to.wrapping_add(k), from.wrapping_add(k));
+            if to < self.table.len()
+                && from < self.table.len()
+                && self.table[to] < self.table[from]
+            {
+                self.table[to] = self.table[from];
+            }
+        }
+    }
+
+    // The first clock knows what the other does, and no more.
+    fn copy(&mut self, clock: u32, other: u32) {
+        let to = self.cell(clock, 0);
+        let from = self.cell(other, 0);
+        for k in 0..self.width as usize {
+            let (to, from) = (to.wrapping_add(k), from.wrapping_add(k));
+            if to < self.table.len() && from < self.table.len() {
+                self.table[to] = self.table[from];
+            }
+        }
+    }
+
+    /// Up to which event those of the other one are known to the goroutine.
     pub(crate) fn count(&self, goroutine: u32, other: u32) -> u32 {
         self.get(row(&self.current, goroutine), other)
     }
@@ -121,13 +148,7 @@ impl<A: Allocator + Copy> Known<A> {
             return Ok(old);
         }
         let new = self.take()?;
-        for other in 0..self.width {
-            let cell = self.cell(new, other);
-            let len = self.get(old, other);
-            if cell < self.table.len() {
-                self.table[cell] = len;
-            }
-        }
+        self.copy(new, old);
         self.release(old);
         set_row(&mut self.uses, new, 1);
         set_row(&mut self.current, goroutine, new);
@@ -141,15 +162,12 @@ impl<A: Allocator + Copy> Known<A> {
         clock: u32,
         part: Part,
     ) -> Result<(), AllocError> {
-        if part.who == goroutine || part.len <= self.count(goroutine, part.who) {
+        if part.who == goroutine || part.end <= self.count(goroutine, part.who) {
             return Ok(());
         }
         let own = self.make_own(goroutine)?;
-        for other in 0..self.width {
-            let len = self.get(clock, other);
-            self.raise(own, other, len);
-        }
-        self.raise(own, part.who, part.len);
+        self.join(own, clock);
+        self.raise(own, part.who, part.end);
         Ok(())
     }
 }

@@ -5,6 +5,7 @@
 #![tactic(auto)]
 
 mod accesses;
+mod candidates;
 mod closure;
 mod course;
 mod known;
@@ -12,9 +13,9 @@ mod locksets;
 mod pairs;
 mod predictions;
 mod proposal;
+mod rows;
 mod scene;
 mod search;
-mod seconds;
 mod shared;
 mod steps;
 mod turned;

@@ -1,6 +1,7 @@
 //! The locks that goroutines hold. Nothing is proved of it but that it returns.
 
-use crate::wants::{NONE, Wants, push_row, row, rows_of, set_row};
+use crate::rows::{NONE, push_row, row, rows_of, set_row};
+use crate::wants::Pairing;
 use race_records::{Event, Kind, Op, Trace};
 use std::alloc::{AllocError, Allocator, Global};
 
@@ -24,6 +25,9 @@ pub(crate) struct LockSets<A: Allocator = Global> {
     current: Vec<u32, A>,
     aside: Vec<u32, A>,
     locks: u32,
+    // Of each lock whether another goroutine ends a section of it, as 0 and 1: then it guards nothing.
+    foreign: Vec<u32, A>,
+    pub(crate) is_any_foreign: bool,
 }
 
 impl<A: Allocator + Copy> LockSets<A> {
@@ -36,6 +40,8 @@ impl<A: Allocator + Copy> LockSets<A> {
             current: rows_of(alloc, trace.decls().count(Kind::Goroutine) as usize, NONE)?,
             aside: Vec::new(alloc),
             locks,
+            foreign: rows_of(alloc, objects, 0)?,
+            is_any_foreign: false,
         })
     }
 
@@ -150,7 +156,9 @@ impl<A: Allocator + Copy> LockSets<A> {
                 break;
             }
             let held = self.held(rest);
-            if self.contains(second, held.lock, held.lock % 2 == 0) {
+            if row(&self.foreign, held.lock / 2) == 0
+                && self.contains(second, held.lock, held.lock % 2 == 0)
+            {
                 return true;
             }
             rest = held.outer;
@@ -177,33 +185,27 @@ impl<A: Allocator + Copy> LockSets<A> {
         true
     }
 
-    /// The event begins or ends a section of its goroutine.
+    /// The event begins or ends a section, where it does.
     pub(crate) fn note(
         &mut self,
         trace: &Trace<A>,
-        wants: &Wants<A>,
+        pairing: &Pairing<A>,
         at: u32,
         event: &Event,
     ) -> Result<(), AllocError> {
         let (lock, begins) = self.section(trace, &event.op);
-        let set = row(&self.current, event.who);
-        let other = if begins {
-            row(&wants.mate, at)
-        } else {
-            row(&wants.want, at)
-        };
-        let is_own = if (other as usize) < trace.len() {
-            trace.event(other as usize).who == event.who
-        } else {
-            begins
-        };
-        if lock == NONE || !is_own {
+        if lock == NONE || row(&self.foreign, lock / 2) == 1 {
             return Ok(());
         }
+        let set = row(&self.current, event.who);
         let new = if begins {
             self.add(set, lock)?
-        } else {
+        } else if is_by(trace, pairing.want(at), event.who) {
             self.remove(set, lock)?
+        } else {
+            set_row(&mut self.foreign, lock / 2, 1);
+            self.is_any_foreign = true;
+            set
         };
         set_row(&mut self.current, event.who, new);
         Ok(())
@@ -235,4 +237,9 @@ impl<A: Allocator + Copy> LockSets<A> {
 
 fn strong(lock: u32) -> u32 {
     lock.saturating_mul(2).saturating_add(1)
+}
+
+// Whether it is an event of the goroutine.
+fn is_by<A: Allocator>(trace: &Trace<A>, at: u32, who: u32) -> bool {
+    (at as usize) < trace.len() && trace.event(at as usize).who == who
 }

@@ -2,11 +2,10 @@
 
 use crate::accesses::Accesses;
 use crate::closure::Closure;
+use crate::rows::{NONE, fill, push_row, row, rows_of, set_row};
 use crate::scene::Scene;
-use crate::seconds::Seconds;
 use crate::shared::{Shared, access_at};
 use crate::turned::Turned;
-use crate::wants::{NONE, push_row, row, rows_of, set_row};
 use race_records::{Kind, Trace};
 use std::alloc::{AllocError, Allocator, Global};
 
@@ -39,9 +38,8 @@ const NO_FIRSTS: Firsts = Firsts {
 /// the closure with a second access is in it with each later one.
 #[derive(Drop)]
 pub(crate) struct Pairs<A: Allocator = Global> {
-    pub(crate) shared: Shared<A>,
-    pub(crate) seconds: Seconds<A>,
-    pub(crate) accesses: Accesses<A>,
+    shared: Shared<A>,
+    accesses: Accesses<A>,
     // Of each group of second accesses a list of firsts.
     lists: Vec<u32, A>,
     firsts: Vec<Firsts, A>,
@@ -61,15 +59,14 @@ impl<A: Allocator + Copy> Pairs<A> {
         alloc: A,
         trace: &Trace<A>,
         shared: Shared<A>,
-        seconds: Seconds<A>,
+        candidates: &Vec<u32, A>,
         limit: u64,
     ) -> Result<Pairs<A>, AllocError> {
-        let vars = trace.decls().count(Kind::Var) as usize;
-        let accesses = Accesses::new(alloc, trace, &seconds.is_candidate)?;
+        let vars = candidates.len();
+        let accesses = Accesses::new(alloc, trace, candidates, shared.begin)?;
         let groups = accesses.len();
         Ok(Pairs {
             shared,
-            seconds,
             accesses,
             lists: rows_of(alloc, groups, NONE)?,
             firsts: Vec::new(alloc),
@@ -81,15 +78,22 @@ impl<A: Allocator + Copy> Pairs<A> {
         })
     }
 
-    /// Searches all variables.
+    /// Whether there is nothing to search.
+    pub(crate) fn is_empty(&self) -> bool {
+        self.accesses.len() == 0
+    }
+
+    /// Searches all pairs whose second access stands before this index.
     pub(crate) fn search(
         &mut self,
         scene: &Scene<A>,
         closure: &mut Closure<A>,
         turned: &mut Turned<A>,
+        end: u32,
     ) -> Result<(), AllocError> {
+        fill(&mut self.lists, NONE);
         for goroutine in 0..scene.trace.decls().count(Kind::Goroutine) {
-            self.search_seconds(scene, closure, turned, goroutine)?;
+            self.search_seconds(scene, closure, turned, goroutine, end)?;
         }
         Ok(())
     }
@@ -100,19 +104,20 @@ impl<A: Allocator + Copy> Pairs<A> {
         closure: &mut Closure<A>,
         turned: &mut Turned<A>,
         goroutine: u32,
+        end: u32,
     ) -> Result<(), AllocError> {
-        let mut second = row(&self.seconds.first, goroutine);
-        if second == NONE {
+        let mut second = self.accesses.begin_of(goroutine);
+        if second >= end {
             return Ok(());
         }
         self.firsts.clear();
         closure.clear(scene.steps);
         for _ in 0..scene.trace.len() {
-            if second == NONE {
+            if second >= end {
                 break;
             }
             self.try_second(scene, closure, turned, second)?;
-            second = row(&self.seconds.next, second);
+            second = self.accesses.later_than(second);
         }
         Ok(())
     }
@@ -352,13 +357,11 @@ impl<A: Allocator + Copy> Pairs<A> {
         scene: &Scene<A>,
         closure: &mut Closure<A>,
         turned: &mut Turned<A>,
+        end: u32,
     ) -> Result<(), AllocError> {
-        for list in self.lists.iter_mut() {
-            *list = NONE;
-        }
         closure.keeps_order = false;
         self.limit = closure.taken.saturating_add(self.limit / 4);
-        self.search(scene, closure, turned)?;
+        self.search(scene, closure, turned, end)?;
         closure.keeps_order = true;
         Ok(())
     }

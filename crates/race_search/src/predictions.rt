@@ -33,7 +33,7 @@ fn predicted<A: Allocator + Copy>(
     ensures found { IfOk result (λ found. IfSome found (IsPredicted recorded.now)) }
     ensures var { IfOk result (λ found. IfSome found (λ p. p.var ≡ var)) }
 {
-    match search.order(alloc, recorded, positions, var)? {
+    match search.order(alloc, recorded, var)? {
         Some(order) => tested(alloc, recorded, verdict, positions, var, order),
         None => Ok(None),
     }
@@ -55,11 +55,77 @@ fn add_race<A: Allocator>(
     Ok(())
 }
 
+// The races that the pairs found so far make, at most so many, those first whose runs end first.
+fn races_of<A: Allocator + Copy>(
+    search: &mut Search<A>,
+    alloc: A,
+    recorded: &Trace<A>,
+    verdict: &Verdict<A>,
+    most: u32,
+) -> Result<Vec<Race, A>, AllocError>
+    requires { HasVerdict recorded.now (verdict_of verdict.now) }
+    ensures found { IfOk result (λ found. All (IsPredictedRace recorded.now) found.items) }
+    ensures most { IfOk result (λ found. length found.items ≤ most) }
+{
+    let mut found = Vec::new(alloc);
+    let candidates = search.candidates(alloc)?;
+    if candidates.is_empty() {
+        return Ok(found);
+    }
+    let positions = positions_of(alloc, recorded)?;
+    for candidate in candidates.as_slice() {
+        if found.len() >= most as usize {
+            break;
+        }
+        let prediction = predicted(
+            search,
+            alloc,
+            recorded,
+            verdict,
+            positions.as_slice(),
+            candidate.var,
+        )?;
+        add_race(&mut found, prediction)?;
+    }
+    Ok(found)
+}
+
+// The index behind the last event.
+fn behind<A: Allocator>(trace: &Trace<A>) -> u32 {
+    u32::try_from(trace.len()).unwrap_or(u32::MAX)
+}
+
+// The races that are found, those first whose runs end first.
+fn found_by<A: Allocator + Copy>(
+    search: &mut Search<A>,
+    alloc: A,
+    recorded: &Trace<A>,
+    verdict: &Verdict<A>,
+    most: u32,
+    turned: bool,
+) -> Result<Vec<Race, A>, AllocError>
+    requires { HasVerdict recorded.now (verdict_of verdict.now) }
+    ensures found { IfOk result (λ found. All (IsPredictedRace recorded.now) found.items) }
+    ensures most { IfOk result (λ found. length found.items ≤ most) }
+{
+    let end = behind(recorded);
+    if !turned {
+        // Where there are many, the first eighth of the events has enough of them.
+        search.find(recorded, end / 8, false)?;
+        let found = races_of(search, alloc, recorded, verdict, most)?;
+        if found.len() >= most as usize {
+            return Ok(found);
+        }
+    }
+    search.find(recorded, end, turned)?;
+    races_of(search, alloc, recorded, verdict, most)
+}
+
 /// Predicts races of the trace, on different variables in rising order, and at most so many: those whose runs end first in the recorded trace. The
 /// verdict is that on the trace. Where the search takes too many steps, the variables that are left are counted. Where `turned`, runs are tried too in
 /// which what the trace's locks and channels order comes in another order.
 ///
-/// Not all are found. Takes some 100 bytes for each recorded event, and those of a certificate. Each race that is found takes time in proportion to
+/// Not all are found. Takes some 60 bytes for each recorded event, and those of a certificate. Each race that is found takes time in proportion to
 /// the events of its run.
 pub fn predict<A: Allocator + Copy>(
     alloc: A,
@@ -72,25 +138,8 @@ pub fn predict<A: Allocator + Copy>(
     ensures found { IfOk result (λ predictions. All (IsPredictedRace recorded.now) predictions.found.items) }
     ensures most { IfOk result (λ predictions. length predictions.found.items ≤ most) }
 {
-    let positions = positions_of(alloc, recorded)?;
-    let positions = positions.as_slice();
-    let mut search = Search::new(alloc, recorded, verdict, positions, None, turned)?;
-    let candidates = search.candidates(alloc)?;
-    let mut found = Vec::new(alloc);
-    for candidate in candidates.as_slice() {
-        if found.len() >= most as usize {
-            break;
-        }
-        let prediction = predicted(
-            &mut search,
-            alloc,
-            recorded,
-            verdict,
-            positions,
-            candidate.var,
-        )?;
-        add_race(&mut found, prediction)?;
-    }
+    let mut search = Search::new(alloc, recorded, verdict, None, turned)?;
+    let mut found = found_by(&mut search, alloc, recorded, verdict, most, turned)?;
     found.sort_by_key(|race| race.var)?;
     Ok(Predictions {
         found,
@@ -110,8 +159,15 @@ pub fn predict_on<A: Allocator + Copy>(
     ensures found { IfOk result (λ found. IfSome found (IsPredicted recorded.now)) }
     ensures var { IfOk result (λ found. IfSome found (λ p. p.var ≡ var)) }
 {
+    let mut search = Search::new(alloc, recorded, verdict, Some(var), turned)?;
+    search.find(recorded, behind(recorded), turned)?;
     let positions = positions_of(alloc, recorded)?;
-    let positions = positions.as_slice();
-    let mut search = Search::new(alloc, recorded, verdict, positions, Some(var), turned)?;
-    predicted(&mut search, alloc, recorded, verdict, positions, var)
+    predicted(
+        &mut search,
+        alloc,
+        recorded,
+        verdict,
+        positions.as_slice(),
+        var,
+    )
 }

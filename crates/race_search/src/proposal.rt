@@ -3,7 +3,6 @@
 use crate::closure::Closure;
 use crate::scene::Scene;
 use crate::turned::Turned;
-use crate::wants::row;
 use std::alloc::{AllocError, Allocator};
 
 /// What both accesses want before them in the recorded order, and then the two. Where it can be had, the write that one of them read is
@@ -19,7 +18,7 @@ pub(crate) fn propose<A: Allocator + Copy>(
     closure.ask_before(scene.steps, scene.part(first))?;
     closure.ask_before(scene.steps, scene.part(second))?;
     for read in [first, second] {
-        let want = row(&scene.wants.want, read);
+        let want = scene.wants.want(read);
         if want != first && want != second {
             closure.begin();
             closure.ask(scene.part(want))?;

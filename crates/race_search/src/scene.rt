@@ -2,7 +2,6 @@
 
 use crate::steps::{Part, Steps, part_of};
 use crate::wants::Wants;
-use race_predict::Position;
 use race_records::Trace;
 use std::alloc::{Allocator, Global};
 
@@ -10,7 +9,6 @@ use std::alloc::{Allocator, Global};
 #[derive(Clone, Copy)]
 pub(crate) struct Scene<'a, A: Allocator = Global> {
     pub(crate) trace: &'a Trace<A>,
-    pub(crate) positions: &'a [Position],
     pub(crate) wants: &'a Wants<A>,
     pub(crate) steps: &'a Steps<A>,
 }
@@ -18,6 +16,6 @@ pub(crate) struct Scene<'a, A: Allocator = Global> {
 impl<'a, A: Allocator + Copy> Scene<'a, A> {
     /// The part that ends with the event.
     pub(crate) fn part(&self, at: u32) -> Part {
-        part_of(self.trace, self.positions, at)
+        part_of(self.trace, at)
     }
 }

@@ -1,15 +1,15 @@
 //! The search for pairs of accesses that another run may bring together. Nothing is proved of it but that it returns.
 
+use crate::candidates::candidates_of;
 use crate::closure::Closure;
 use crate::pairs::Pairs;
 use crate::proposal::{propose, propose_turned};
+use crate::rows::{NONE, row, rows_of, set_row};
 use crate::scene::Scene;
-use crate::seconds::Seconds;
 use crate::shared::Shared;
 use crate::steps::Steps;
 use crate::turned::Turned;
-use crate::wants::{NONE, Wants, row, rows_of, set_row};
-use race_predict::Position;
+use crate::wants::{Pairing, Wants};
 use race_records::{Kind, Trace};
 use race_verdict::Verdict;
 use std::alloc::{AllocError, Allocator, Global};
@@ -73,65 +73,69 @@ fn searched_by<A: Allocator + Copy>(
 }
 
 impl<A: Allocator + Copy> Search<A> {
-    /// Goes through the pairs of the variables, or of this one alone.
+    /// What is known before any pair is searched, of the variables or of this one alone.
     pub(crate) fn new(
         alloc: A,
         recorded: &Trace<A>,
         verdict: &Verdict<A>,
-        positions: &[Position],
         alone: Option<u32>,
         turned: bool,
     ) -> Result<Search<A>, AllocError> {
         let mut searched = searched_by(alloc, recorded, verdict, alone)?;
-        let wants = Wants::new(alloc, recorded)?;
-        let shared = Shared::new(alloc, recorded, &wants)?;
+        let mut pairing = Pairing::new(alloc, recorded)?;
+        let mut shared = Shared::new(alloc, recorded)?;
+        for at in 0..recorded.len() {
+            let event = recorded.event(at);
+            pairing.note(recorded, at as u32, event);
+            shared.note(recorded, &pairing, at as u32, event)?;
+        }
         for var in 0..recorded.decls().count(Kind::Var) {
-            if !shared.is_open(var) {
+            if !shared.may_race(var) {
                 set_row(&mut searched, var, 0);
             }
         }
-        let seconds = Seconds::new(alloc, recorded, positions, &wants, &shared, &searched)?;
-        let limit = (recorded.len() as u64).saturating_mul(STEPS);
-        let events = if seconds.is_empty() {
-            0
-        } else {
+        let (wants, room) = pairing.finish();
+        let candidates = candidates_of(alloc, recorded, &wants, room, &shared, searched)?;
+        let limit = (recorded.len() as u64)
+            .saturating_mul(STEPS)
+            .saturating_add(MORE_STEPS);
+        let pairs = Pairs::new(alloc, recorded, shared, &candidates, limit)?;
+        let turnable = if turned && !pairs.is_empty() {
             recorded.len()
+        } else {
+            0
         };
-        let steps = Steps::new(alloc, recorded, positions, &wants, events)?;
-        let turnable = if turned { events } else { 0 };
-        let mut search = Search {
-            closure: Closure::new(alloc, recorded, &steps)?,
-            pairs: Pairs::new(
-                alloc,
-                recorded,
-                shared,
-                seconds,
-                limit.saturating_add(MORE_STEPS),
-            )?,
+        let steps = Steps::new(alloc, recorded)?;
+        Ok(Search {
+            closure: Closure::new(alloc, recorded)?,
+            pairs,
             turned: Turned::new(alloc, recorded, turnable)?,
             wants,
             steps,
-        };
-        search.find_pairs(recorded, positions, turned)?;
-        Ok(search)
+        })
     }
 
-    fn find_pairs(
+    /// Goes through the pairs whose second access stands before this index, in turned orders too where so.
+    pub(crate) fn find(
         &mut self,
         recorded: &Trace<A>,
-        positions: &[Position],
+        end: u32,
         turned: bool,
     ) -> Result<(), AllocError> {
+        if self.pairs.is_empty() {
+            return Ok(());
+        }
+        self.steps.go_on(recorded, &self.wants, end)?;
+        self.closure.make_room(&self.steps)?;
         let scene = Scene {
             trace: recorded,
-            positions,
             wants: &self.wants,
             steps: &self.steps,
         };
         let (closure, orders) = (&mut self.closure, &mut self.turned);
-        self.pairs.search(&scene, closure, orders)?;
+        self.pairs.search(&scene, closure, orders, end)?;
         if turned {
-            self.pairs.search_turned(&scene, closure, orders)?;
+            self.pairs.search_turned(&scene, closure, orders, end)?;
         }
         Ok(())
     }
@@ -141,7 +145,6 @@ impl<A: Allocator + Copy> Search<A> {
         &mut self,
         alloc: A,
         recorded: &Trace<A>,
-        positions: &[Position],
         var: u32,
     ) -> Result<Option<Vec<u32, A>>, AllocError> {
         let first = row(&self.pairs.first, var);
@@ -151,7 +154,6 @@ impl<A: Allocator + Copy> Search<A> {
         }
         let scene = Scene {
             trace: recorded,
-            positions,
             wants: &self.wants,
             steps: &self.steps,
         };

@@ -1,7 +1,8 @@
 //! The variables on which another run may race: those of several goroutines that no lock guards. Nothing is proved of it but that it returns.
 
 use crate::locksets::LockSets;
-use crate::wants::{NONE, Wants, push_row, row, rows_of, set_row};
+use crate::rows::{NONE, push_row, row, rows_of, set_row};
+use crate::wants::Pairing;
 use race_records::{Event, Kind, Op, Trace};
 use std::alloc::{AllocError, Allocator, Global};
 
@@ -31,56 +32,90 @@ pub(crate) fn access_at<A: Allocator>(trace: &Trace<A>, at: u32) -> (u32, bool) 
 pub(crate) struct Shared<A: Allocator = Global> {
     pub(crate) locks: LockSets<A>,
     pub(crate) set: Vec<u32, A>,
+    /// The first start of a goroutine, or `NONE`: what main did before it comes before all events of the others.
+    pub(crate) begin: u32,
     // Of each variable its goroutine; whether it is written, and whether two of its accesses have no common lock, as 0 and 1.
     owner: Vec<u32, A>,
     written: Vec<u32, A>,
     open: Vec<u32, A>,
-    // Of each variable a list of sets: the first, and of each the set and the next one.
+    // Of each variable a list of sets: the first, and of each the set, whether a write has it, as 0 and 1, and the next one.
     first: Vec<u32, A>,
     sets: Vec<u32, A>,
+    is_written: Vec<u32, A>,
     next: Vec<u32, A>,
 }
 
 impl<A: Allocator + Copy> Shared<A> {
-    pub(crate) fn new(
-        alloc: A,
-        trace: &Trace<A>,
-        wants: &Wants<A>,
-    ) -> Result<Shared<A>, AllocError> {
+    pub(crate) fn new(alloc: A, trace: &Trace<A>) -> Result<Shared<A>, AllocError> {
         let vars = trace.decls().count(Kind::Var) as usize;
-        let mut shared = Shared {
+        Ok(Shared {
             locks: LockSets::new(alloc, trace)?,
             set: rows_of(alloc, trace.len(), NONE)?,
+            begin: NONE,
             owner: rows_of(alloc, vars, NONE)?,
             written: rows_of(alloc, vars, 0)?,
             open: rows_of(alloc, vars, 0)?,
             first: rows_of(alloc, vars, NONE)?,
             sets: Vec::new(alloc),
+            is_written: Vec::new(alloc),
             next: Vec::new(alloc),
-        };
-        for at in 0..trace.len() {
-            shared.note(trace, wants, at as u32, trace.event(at))?;
-        }
-        Ok(shared)
+        })
     }
 
-    /// Whether another run may race on the variable.
-    pub(crate) fn is_open(&self, var: u32) -> bool {
+    /// Whether another run may race on the variable, once all events were noted.
+    pub(crate) fn may_race(&self, var: u32) -> bool {
         row(&self.owner, var) == SEVERAL
             && row(&self.written, var) == 1
-            && row(&self.open, var) == 1
+            && (row(&self.open, var) == 1 || self.locks.is_any_foreign && !self.is_guarded(var))
     }
 
-    fn note(
+    // Whether all sets of the variable exclude one another.
+    fn is_guarded(&self, var: u32) -> bool {
+        let mut i = row(&self.first, var);
+        for _ in 0..self.sets.len() {
+            if i == NONE {
+                break;
+            }
+            if !self.exclude(row(&self.sets, i), row(&self.is_written, i) == 1, i) {
+                return false;
+            }
+            i = row(&self.next, i);
+        }
+        true
+    }
+
+    // Whether the set excludes itself, and each set from this one on, where one of the two has a write.
+    fn exclude(&self, set: u32, writes: bool, first: u32) -> bool {
+        let mut excludes = !writes || self.locks.exclude(set, set);
+        let mut i = first;
+        for _ in 0..self.sets.len() {
+            if i == NONE || !excludes {
+                break;
+            }
+            excludes = !writes && row(&self.is_written, i) == 0
+                || self.locks.exclude(row(&self.sets, i), set);
+            i = row(&self.next, i);
+        }
+        excludes
+    }
+
+    /// The event comes next.
+    pub(crate) fn note(
         &mut self,
         trace: &Trace<A>,
-        wants: &Wants<A>,
+        pairing: &Pairing<A>,
         at: u32,
         event: &Event,
     ) -> Result<(), AllocError> {
         let (var, writes) = access_of(event);
         if var == NONE {
-            return self.locks.note(trace, wants, at, event);
+            if matches!(event.op, Op::Go(_)) {
+                self.begin = self.begin.min(at);
+            }
+            return self.locks.note(trace, pairing, at, event);
+        }
+        if self.begin == NONE {
+            return Ok(());
         }
         let set = self.locks.current(event.who);
         set_row(&mut self.set, at, set);
@@ -93,33 +128,32 @@ impl<A: Allocator + Copy> Shared<A> {
         } else if owner != event.who {
             set_row(&mut self.owner, var, SEVERAL);
         }
-        self.note_set(var, set)
+        self.note_set(var, set, writes)
     }
 
-    // Accesses of the variable hold this set.
-    fn note_set(&mut self, var: u32, set: u32) -> Result<(), AllocError> {
+    // An access of the variable has this set.
+    fn note_set(&mut self, var: u32, set: u32, writes: bool) -> Result<(), AllocError> {
         if row(&self.open, var) == 1 {
             return Ok(());
         }
-        let mut excludes = self.locks.exclude(set, set);
-        let mut i = row(&self.first, var);
+        let first = row(&self.first, var);
+        let mut i = first;
         for _ in 0..self.sets.len() {
-            if i == NONE || !excludes {
+            if i == NONE {
                 break;
             }
-            let other = row(&self.sets, i);
-            if other == set {
+            if row(&self.sets, i) == set && (!writes || row(&self.is_written, i) == 1) {
                 return Ok(());
             }
-            excludes = self.locks.exclude(other, set);
             i = row(&self.next, i);
         }
-        if !excludes {
+        if !self.exclude(set, writes, first) {
             set_row(&mut self.open, var, 1);
             return Ok(());
         }
         push_row(&mut self.sets, set)?;
-        let new = push_row(&mut self.next, row(&self.first, var))?;
+        push_row(&mut self.is_written, u32::from(writes))?;
+        let new = push_row(&mut self.next, first)?;
         set_row(&mut self.first, var, new);
         Ok(())
     }

@@ -1,16 +1,17 @@
 //! What the events of a set want in the set beside them, goroutine by goroutine. Nothing is proved of it but that it returns: what the search
 //! proposes is tested.
 
-use crate::wants::{NONE, Wants, push_row, row, rows_of, set_row};
-use race_predict::{Position, partner};
+use crate::rows::{NONE, push_row, row, rows_of, set_row};
+use crate::wants::Wants;
+use race_predict::partner;
 use race_records::{Cases, Dir, Kind, Op, Trace};
 use std::alloc::{AllocError, Allocator, Global};
 
-/// The first events of a goroutine, so many; `NONE` where there is no such event.
+/// The events of a goroutine whose indexes are lower than `end`; `NONE` where there is no such event.
 #[derive(Clone, Copy)]
 pub(crate) struct Part {
     pub(crate) who: u32,
-    pub(crate) len: u32,
+    pub(crate) end: u32,
 }
 
 /// What an event wants.
@@ -39,18 +40,20 @@ pub(crate) struct Step {
     pub(crate) ask: Ask,
 }
 
-const NO_PART: Part = Part { who: 0, len: NONE };
+const NO_PART: Part = Part { who: 0, end: NONE };
 
 const NO_STEP: Step = Step {
     at: NONE,
-    own: Part { who: 0, len: NONE },
+    own: Part { who: 0, end: NONE },
     next: NONE,
-    ask: Ask::Part(Part { who: 0, len: NONE }),
+    ask: Ask::Part(Part { who: 0, end: NONE }),
 };
 
 /// The steps of all goroutines.
 #[derive(Drop)]
 pub(crate) struct Steps<A: Allocator = Global> {
+    // How many events were taken in.
+    events: u32,
     list: Vec<Step, A>,
     // Of each step of a send the channel's next one.
     following: Vec<u32, A>,
@@ -67,15 +70,11 @@ pub(crate) struct Steps<A: Allocator = Global> {
 }
 
 /// The part that ends with the event.
-pub(crate) fn part_of<A: Allocator + Copy>(
-    trace: &Trace<A>,
-    positions: &[Position],
-    at: u32,
-) -> Part {
-    if (at as usize) < trace.len() && (at as usize) < positions.len() {
+pub(crate) fn part_of<A: Allocator>(trace: &Trace<A>, at: u32) -> Part {
+    if (at as usize) < trace.len() {
         Part {
             who: trace.event(at as usize).who,
-            len: positions[at as usize].own.saturating_add(1),
+            end: at.saturating_add(1),
         }
     } else {
         NO_PART
@@ -83,17 +82,12 @@ pub(crate) fn part_of<A: Allocator + Copy>(
 }
 
 impl<A: Allocator + Copy> Steps<A> {
-    /// Those of the first events, so many.
-    pub(crate) fn new(
-        alloc: A,
-        trace: &Trace<A>,
-        positions: &[Position],
-        wants: &Wants<A>,
-        events: usize,
-    ) -> Result<Steps<A>, AllocError> {
+    /// Those of no event.
+    pub(crate) fn new(alloc: A, trace: &Trace<A>) -> Result<Steps<A>, AllocError> {
         let goroutines = trace.decls().count(Kind::Goroutine) as usize;
         let chans = trace.decls().count(Kind::Chan);
         let mut steps = Steps {
+            events: 0,
             list: Vec::new(alloc),
             following: Vec::new(alloc),
             first: rows_of(alloc, goroutines, NONE)?,
@@ -107,10 +101,21 @@ impl<A: Allocator + Copy> Steps<A> {
         for chan in 0..chans {
             set_row(&mut steps.capacities, chan, trace.decls().capacity(chan));
         }
-        for at in 0..events.min(trace.len()) {
-            steps.note(trace, positions, wants, at as u32)?;
-        }
         Ok(steps)
+    }
+
+    /// Takes in the events before this index.
+    pub(crate) fn go_on(
+        &mut self,
+        trace: &Trace<A>,
+        wants: &Wants<A>,
+        end: u32,
+    ) -> Result<(), AllocError> {
+        for at in self.events..end {
+            self.note(trace, wants, at)?;
+        }
+        self.events = end.max(self.events);
+        Ok(())
     }
 
     /// How many steps there are.
@@ -155,7 +160,7 @@ impl<A: Allocator + Copy> Steps<A> {
 
     // The event wants another goroutine's events.
     fn push_part(&mut self, at: u32, own: Part, other: Part) -> Result<(), AllocError> {
-        if other.who != own.who && other.len != NONE {
+        if other.who != own.who && other.end != NONE {
             self.push(at, own, Ask::Part(other))?;
         }
         Ok(())
@@ -204,27 +209,20 @@ impl<A: Allocator + Copy> Steps<A> {
         Ok(())
     }
 
-    fn note(
-        &mut self,
-        trace: &Trace<A>,
-        positions: &[Position],
-        wants: &Wants<A>,
-        at: u32,
-    ) -> Result<(), AllocError> {
-        if at as usize >= trace.len() || at as usize >= positions.len() {
+    fn note(&mut self, trace: &Trace<A>, wants: &Wants<A>, at: u32) -> Result<(), AllocError> {
+        if at as usize >= trace.len() {
             return Ok(());
         }
         let event = trace.event(at as usize);
-        let own = part_of(trace, positions, at);
+        let own = part_of(trace, at);
         if let Some(who) = partner(&event.op) {
-            let len = positions[at as usize].partners.saturating_add(1);
-            let other = Part { who, len };
+            let other = Part { who, end: own.end };
             self.push_part(at, own, other)?;
             return self.push_part(at, other, own);
         }
-        self.push_part(at, own, part_of(trace, positions, row(&wants.want, at)))?;
-        let mut end = part_of(trace, positions, row(&wants.mate, at));
-        if end.len == NONE {
+        self.push_part(at, own, part_of(trace, wants.want(at)))?;
+        let mut end = part_of(trace, wants.end(at));
+        if end.end == NONE {
             end.who = own.who;
         }
         self.note_op(at, own, end, &event.op)

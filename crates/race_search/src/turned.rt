@@ -2,13 +2,13 @@
 //! tested.
 
 use crate::closure::Closure;
-use crate::course::{Course, fill, lower, raise};
+use crate::course::Course;
+use crate::rows::{NONE, fill, lower, push_row, raise, row, rows_of, set_row};
 use crate::scene::Scene;
 use crate::shared::access_of;
 use crate::steps::{Ask, Part, Steps};
-use crate::wants::{NONE, push_row, row, rows_of, set_row};
 use race_predict::partner;
-use race_records::{Kind, Op, Trace};
+use race_records::{Event, Kind, Op, Trace};
 use std::alloc::{AllocError, Allocator, Global};
 
 /// How often a set is begun anew.
@@ -37,15 +37,17 @@ pub(crate) struct Turned<A: Allocator = Global> {
     // Ends that come in beside what is wanted, and those that can't.
     extra: Vec<Part, A>,
     refused: Vec<Part, A>,
-    // Of each goroutine how many of its events are in the order, and where its others begin, which stand one behind the other.
-    done: Vec<u32, A>,
+    // Of each goroutine how many events aren't put down yet, and where those that are begin, which stand one behind the other, and end.
+    count: Vec<u32, A>,
     begin: Vec<u32, A>,
+    end: Vec<u32, A>,
     rest: Vec<u32, A>,
     // What is still to come: of each write its reads, and behind these rows of each variable those that find the first value; of each lock the
     // ends of sections, and behind these rows those for reading alone; of each channel the sends that are received.
     reads: Vec<u32, A>,
     ends: Vec<u32, A>,
     sends: Vec<u32, A>,
+    goroutines: u32,
     locks: u32,
     chans: u32,
     events: u32,
@@ -67,12 +69,14 @@ impl<A: Allocator + Copy> Turned<A> {
             order: Vec::new(alloc),
             extra: Vec::new(alloc),
             refused: Vec::new(alloc),
-            done: rows_of(alloc, goroutines, 0)?,
+            count: rows_of(alloc, goroutines, 0)?,
             begin: rows_of(alloc, goroutines, 0)?,
+            end: rows_of(alloc, goroutines, 0)?,
             rest: Vec::new(alloc),
             reads: rows_of(alloc, sources, 0)?,
             ends: rows_of(alloc, (locks as usize).saturating_mul(2), 0)?,
             sends: rows_of(alloc, chans as usize, 0)?,
+            goroutines: decls.count(Kind::Goroutine),
             locks,
             chans,
             events: u32::try_from(trace.len()).unwrap_or(NONE),
@@ -81,7 +85,6 @@ impl<A: Allocator + Copy> Turned<A> {
         for at in 0..events {
             turned.note_segment(trace, at);
         }
-        fill(&mut turned.done, 0);
         Ok(turned)
     }
 
@@ -91,18 +94,22 @@ impl<A: Allocator + Copy> Turned<A> {
         }
         let event = trace.event(at);
         if access_of(event).0 == NONE {
-            raise(&mut self.done, event.who);
-            if let Some(other) = partner(&event.op) {
-                raise(&mut self.done, other);
-            }
+            self.raise_count(event);
         }
-        set_row(&mut self.segment, at as u32, row(&self.done, event.who));
+        set_row(&mut self.segment, at as u32, row(&self.count, event.who));
+    }
+
+    fn raise_count(&mut self, event: &Event) {
+        raise(&mut self.count, event.who);
+        if let Some(other) = partner(&event.op) {
+            raise(&mut self.count, other);
+        }
     }
 
     fn is_refused(&self, part: Part) -> bool {
         self.refused
             .iter()
-            .any(|other| other.who == part.who && other.len == part.len)
+            .any(|other| other.who == part.who && other.end == part.end)
     }
 
     // What is open in the list that begins with this step.
@@ -111,7 +118,7 @@ impl<A: Allocator + Copy> Turned<A> {
             count: 0,
             writers: 0,
             earliest: NONE,
-            end: Part { who: 0, len: NONE },
+            end: Part { who: 0, end: NONE },
             end_at: NONE,
         };
         let mut i = first;
@@ -127,7 +134,7 @@ impl<A: Allocator + Copy> Turned<A> {
                 if matches!(step.ask, Ask::Lock(_, _)) {
                     open.writers = open.writers.saturating_add(1);
                 }
-                if end.len != NONE && step.at < open.end_at && !self.is_refused(end) {
+                if end.end != NONE && step.at < open.end_at && !self.is_refused(end) {
                     open.end = end;
                     open.end_at = step.at;
                 }
@@ -165,7 +172,7 @@ impl<A: Allocator + Copy> Turned<A> {
                 }
             }
         }
-        Some(Part { who: 0, len: NONE })
+        Some(Part { who: 0, end: NONE })
     }
 
     /// From a closure of what the second access wants: what both want, with the ends that are missing. A trial; it is taken back where there is no
@@ -191,7 +198,7 @@ impl<A: Allocator + Copy> Turned<A> {
             if !is_spoilt {
                 match self.missing_end(steps, closure) {
                     Some(part) => {
-                        if part.len == NONE {
+                        if part.end == NONE {
                             return Ok(true);
                         }
                         self.extra.push(part)?;
@@ -232,12 +239,7 @@ impl<A: Allocator + Copy> Turned<A> {
         if at as usize >= scene.trace.len() {
             return Ok(());
         }
-        let event = scene.trace.event(at as usize);
         self.course.take(scene.trace, at);
-        raise(&mut self.done, event.who);
-        if let Some(other) = partner(&event.op) {
-            raise(&mut self.done, other);
-        }
         self.order.push(at)?;
         self.taken = self.taken.saturating_add(1);
         Ok(())
@@ -247,9 +249,6 @@ impl<A: Allocator + Copy> Turned<A> {
     fn keep(&mut self, scene: &Scene<A>, closure: &Closure<A>, cut: u32) -> Result<(), AllocError> {
         self.order.clear();
         self.course.clear();
-        for done in self.done.iter_mut() {
-            *done = 0;
-        }
         for at in 0..cut {
             if closure.has(scene.part(at)) {
                 self.take(scene, at)?;
@@ -258,23 +257,44 @@ impl<A: Allocator + Copy> Turned<A> {
         Ok(())
     }
 
-    // Makes room for the events behind the cut, goroutine by goroutine.
-    fn make_room(&mut self, scene: &Scene<A>, closure: &Closure<A>) -> Result<(), AllocError> {
+    // The index behind the last event of the set. An end that came in may stand anywhere.
+    fn behind(&self, closure: &Closure<A>) -> u32 {
+        let mut behind = 0;
+        for goroutine in 0..self.goroutines {
+            behind = closure.front(goroutine).max(behind);
+        }
+        behind.min(self.events)
+    }
+
+    // Makes room for the events behind the cut, goroutine by goroutine, and for none behind each.
+    fn make_room(
+        &mut self,
+        scene: &Scene<A>,
+        closure: &Closure<A>,
+        cut: u32,
+        behind: u32,
+    ) -> Result<(), AllocError> {
+        fill(&mut self.count, 0);
+        for at in cut..behind {
+            if (at as usize) < scene.trace.len() && closure.has(scene.part(at)) {
+                self.raise_count(scene.trace.event(at as usize));
+            }
+        }
         self.rest.clear();
-        for goroutine in 0..scene.trace.decls().count(Kind::Goroutine) {
-            let done = row(&self.done, goroutine);
+        for goroutine in 0..self.goroutines {
             let begin = push_row(&mut self.rest, NONE)?;
-            for _ in done..closure.front(goroutine) {
+            for _ in 0..row(&self.count, goroutine) {
                 self.rest.push(NONE)?;
             }
             set_row(&mut self.begin, goroutine, begin);
+            set_row(&mut self.end, goroutine, begin);
         }
         Ok(())
     }
 
     // The write that the read found, or its variable.
     fn source(&self, scene: &Scene<A>, at: u32, var: u32) -> u32 {
-        let want = row(&scene.wants.want, at);
+        let want = scene.wants.want(at);
         if want == NONE {
             self.events.saturating_add(var)
         } else {
@@ -294,7 +314,7 @@ impl<A: Allocator + Copy> Turned<A> {
 
     // Whether what the event begins ends in the set.
     fn is_closed(&self, scene: &Scene<A>, closure: &Closure<A>, at: u32) -> bool {
-        closure.has(scene.part(row(&scene.wants.mate, at)))
+        closure.has(scene.part(scene.wants.end(at)))
     }
 
     // The event is still to come, or comes now.
@@ -321,40 +341,29 @@ impl<A: Allocator + Copy> Turned<A> {
         }
     }
 
-    fn put(&mut self, who: u32, own: u32, at: u32) {
-        let behind = own.saturating_sub(row(&self.done, who));
-        let slot = row(&self.begin, who).saturating_add(behind);
+    fn put(&mut self, who: u32, at: u32) {
+        let slot = row(&self.end, who);
         set_row(&mut self.rest, slot, at);
+        set_row(&mut self.end, who, slot.saturating_add(1));
     }
 
-    // Puts down the events of the set from the cut on, and gives the index behind the last of them. An end that came in may stand anywhere.
-    fn put_rest(&mut self, scene: &Scene<A>, closure: &Closure<A>, cut: u32) -> u32 {
-        let goroutines = scene.trace.decls().count(Kind::Goroutine) as usize;
-        let mut left = self.rest.len().saturating_sub(goroutines);
-        for at in cut..self.events {
-            if left == 0 {
-                return at;
-            }
-            let part = scene.part(at);
-            if closure.has(part) && (at as usize) < scene.trace.len() {
-                left = left.saturating_sub(1);
-                self.put(part.who, part.len.saturating_sub(1), at);
-                if let Some(other) = partner(&scene.trace.event(at as usize).op) {
-                    left = left.saturating_sub(1);
-                    self.put(other, self.partners(scene, at), at);
+    // Puts down the events of the set from the cut on.
+    fn put_rest(&mut self, scene: &Scene<A>, closure: &Closure<A>, cut: u32, behind: u32) {
+        for at in cut..behind {
+            if (at as usize) < scene.trace.len() && closure.has(scene.part(at)) {
+                let event = scene.trace.event(at as usize);
+                self.put(event.who, at);
+                if let Some(other) = partner(&event.op) {
+                    self.put(other, at);
                 }
                 self.count(scene, closure, at, false);
             }
         }
-        self.events
     }
 
-    fn partners(&self, scene: &Scene<A>, at: u32) -> u32 {
-        if (at as usize) < scene.positions.len() {
-            scene.positions[at as usize].partners
-        } else {
-            NONE
-        }
+    // The goroutine's next event.
+    fn next_of(&self, goroutine: u32) -> u32 {
+        row(&self.rest, row(&self.begin, goroutine))
     }
 
     // Whether the event is what each of its participants does next.
@@ -363,10 +372,9 @@ impl<A: Allocator + Copy> Turned<A> {
             return false;
         }
         let event = scene.trace.event(at as usize);
-        let is_own_next = scene.part(at).len == row(&self.done, event.who).saturating_add(1);
         match partner(&event.op) {
-            Some(other) => is_own_next && self.partners(scene, at) == row(&self.done, other),
-            None => is_own_next,
+            Some(other) => self.next_of(event.who) == at && self.next_of(other) == at,
+            None => self.next_of(event.who) == at,
         }
     }
 
@@ -396,18 +404,14 @@ impl<A: Allocator + Copy> Turned<A> {
     // The earliest event that can come next.
     fn earliest(&mut self, scene: &Scene<A>, closure: &Closure<A>) -> u32 {
         let mut best = NONE;
-        for goroutine in 0..scene.trace.decls().count(Kind::Goroutine) {
-            let done = row(&self.done, goroutine);
-            if done < closure.front(goroutine) {
-                let slot = row(&self.begin, goroutine);
-                let at = row(&self.rest, slot);
-                if at < best
-                    && self.is_next(scene, at)
-                    && self.course.can_come(scene.trace, at)
-                    && !self.waits(scene, closure, at)
-                {
-                    best = at;
-                }
+        for goroutine in 0..self.goroutines {
+            let at = self.next_of(goroutine);
+            if at < best
+                && self.is_next(scene, at)
+                && self.course.can_come(scene.trace, at)
+                && !self.waits(scene, closure, at)
+            {
+                best = at;
             }
         }
         best
@@ -434,9 +438,10 @@ impl<A: Allocator + Copy> Turned<A> {
     ) -> Result<bool, AllocError> {
         let cut = self.cut(scene.steps, closure, end);
         self.keep(scene, closure, cut)?;
-        self.make_room(scene, closure)?;
+        let behind = self.behind(closure);
+        self.make_room(scene, closure, cut, behind)?;
         self.forget_counts();
-        let behind = self.put_rest(scene, closure, cut);
+        self.put_rest(scene, closure, cut, behind);
         for _ in 0..self.rest.len() {
             let at = self.earliest(scene, closure);
             if at == NONE {
@@ -447,13 +452,13 @@ impl<A: Allocator + Copy> Turned<A> {
             self.take(scene, at)?;
         }
         self.forget_reads(scene, cut, behind);
-        Ok(self.is_whole(scene, closure))
+        Ok(self.is_whole())
     }
 
     // Whether all of the set has come.
-    fn is_whole(&self, scene: &Scene<A>, closure: &Closure<A>) -> bool {
-        for goroutine in 0..scene.trace.decls().count(Kind::Goroutine) {
-            if row(&self.done, goroutine) < closure.front(goroutine) {
+    fn is_whole(&self) -> bool {
+        for goroutine in 0..self.goroutines {
+            if self.next_of(goroutine) != NONE {
                 return false;
             }
         }

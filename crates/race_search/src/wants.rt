@@ -1,49 +1,8 @@
 //! Which earlier event each event wants in another run. Nothing is proved of it but that it returns: what the search proposes is tested.
 
+use crate::rows::{NONE, row, rows_of, set_row};
 use race_records::{Event, Kind, Op, Trace};
 use std::alloc::{AllocError, Allocator, Global};
-
-/// No event.
-pub(crate) const NONE: u32 = u32::MAX;
-
-/// The number in a row, or `NONE` where there is no such row.
-pub(crate) fn row<A: Allocator>(rows: &Vec<u32, A>, i: u32) -> u32 {
-    if (i as usize) < rows.len() {
-        rows[i as usize]
-    } else {
-        NONE
-    }
-}
-
-/// Puts the number into a row, where there is such a row.
-pub(crate) fn set_row<A: Allocator>(rows: &mut Vec<u32, A>, i: u32, value: u32) {
-    if (i as usize) < rows.len() {
-        rows[i as usize] = value;
-    }
-}
-
-/// Puts a row behind the others, and gives its index, or `NONE` where that is too large.
-pub(crate) fn push_row<T, A: Allocator>(rows: &mut Vec<T, A>, value: T) -> Result<u32, AllocError>
-where
-    T: Drop,
-{
-    let i = rows.len();
-    rows.push(value)?;
-    if i < NONE as usize {
-        Ok(i as u32)
-    } else {
-        Ok(NONE)
-    }
-}
-
-/// So many rows with one number.
-pub(crate) fn rows_of<A: Allocator + Copy>(
-    alloc: A,
-    len: usize,
-    value: u32,
-) -> Result<Vec<u32, A>, AllocError> {
-    vec![in alloc; value; len]
-}
 
 /// A waiting line for each object of a kind: its first event and its last.
 #[derive(Drop)]
@@ -106,18 +65,35 @@ impl<A: Allocator + Copy> Lines<A> {
     }
 }
 
-/// Of each event the earlier one that it wants always, and the later one that ends what it begins (an unlock, a receive).
+/// Of each event the one that it is paired with: of a read the write that it found, of a receive its send, of an unlock its lock. A send and a lock
+/// are paired with what ends them, and of the other events that are wanted each with one that wants it.
 #[derive(Drop)]
 pub(crate) struct Wants<A: Allocator = Global> {
-    pub(crate) want: Vec<u32, A>,
-    pub(crate) mate: Vec<u32, A>,
+    pair: Vec<u32, A>,
 }
 
-// What the events so far leave for those to come.
+impl<A: Allocator> Wants<A> {
+    /// The earlier event that this one always wants.
+    pub(crate) fn want(&self, at: u32) -> u32 {
+        let other = row(&self.pair, at);
+        if other < at { other } else { NONE }
+    }
+
+    /// The later event that ends what this one begins (an unlock, a receive), or that wants it.
+    pub(crate) fn end(&self, at: u32) -> u32 {
+        let other = row(&self.pair, at);
+        if other > at { other } else { NONE }
+    }
+}
+
+/// The wants of the events so far, and what these leave for those to come.
 #[derive(Drop)]
-struct Marks<A: Allocator = Global> {
+pub(crate) struct Pairing<A: Allocator = Global> {
+    wants: Wants<A>,
+    // Of each event that waits in a line the next one.
     next: Vec<u32, A>,
     written: Vec<u32, A>,
+    writers: Vec<u32, A>,
     sends: Lines<A>,
     closed: Vec<u32, A>,
     held: Vec<u32, A>,
@@ -126,15 +102,19 @@ struct Marks<A: Allocator = Global> {
     ended: Vec<u32, A>,
 }
 
-impl<A: Allocator + Copy> Marks<A> {
-    fn new(alloc: A, trace: &Trace<A>) -> Result<Marks<A>, AllocError> {
+impl<A: Allocator + Copy> Pairing<A> {
+    pub(crate) fn new(alloc: A, trace: &Trace<A>) -> Result<Pairing<A>, AllocError> {
         let decls = trace.decls();
         let vars = decls.count(Kind::Var) as usize;
         let chans = decls.count(Kind::Chan) as usize;
         let locks = decls.count(Kind::Lock) as usize;
-        Ok(Marks {
+        Ok(Pairing {
+            wants: Wants {
+                pair: rows_of(alloc, trace.len(), NONE)?,
+            },
             next: rows_of(alloc, trace.len(), NONE)?,
             written: rows_of(alloc, vars, NONE)?,
+            writers: rows_of(alloc, vars, NONE)?,
             sends: Lines::new(alloc, chans)?,
             closed: rows_of(alloc, chans, NONE)?,
             held: rows_of(alloc, locks, NONE)?,
@@ -143,83 +123,113 @@ impl<A: Allocator + Copy> Marks<A> {
             ended: rows_of(alloc, decls.count(Kind::Once) as usize, NONE)?,
         })
     }
-}
 
-impl<A: Allocator + Copy> Wants<A> {
-    /// The wants of all events of the trace.
-    pub(crate) fn new(alloc: A, trace: &Trace<A>) -> Result<Wants<A>, AllocError> {
-        let mut marks = Marks::new(alloc, trace)?;
-        let mut wants = Wants {
-            want: rows_of(alloc, trace.len(), NONE)?,
-            mate: rows_of(alloc, trace.len(), NONE)?,
-        };
-        for at in 0..trace.len() {
-            wants.note(&mut marks, trace, at as u32, trace.event(at));
-        }
-        Ok(wants)
+    /// The earlier event that this one always wants.
+    pub(crate) fn want(&self, at: u32) -> u32 {
+        self.wants.want(at)
     }
 
-    // The event ends what the earlier one began, and wants it.
+    /// The wants, and a row for each event that isn't needed any more.
+    pub(crate) fn finish(self) -> (Wants<A>, Vec<u32, A>) {
+        let Pairing {
+            wants,
+            next,
+            written: _,
+            writers: _,
+            sends: _,
+            closed: _,
+            held: _,
+            touched: _,
+            readers: _,
+            ended: _,
+        } = self;
+        (wants, next)
+    }
+
+    // The later event wants the earlier one.
     fn pair(&mut self, begin: u32, end: u32) {
-        set_row(&mut self.want, end, begin);
-        set_row(&mut self.mate, begin, end);
+        set_row(&mut self.wants.pair, end, begin);
+        set_row(&mut self.wants.pair, begin, end);
     }
 
-    fn note(&mut self, marks: &mut Marks<A>, trace: &Trace<A>, at: u32, event: &Event) {
+    /// The event comes next.
+    pub(crate) fn note(&mut self, trace: &Trace<A>, at: u32, event: &Event) {
         match &event.op {
-            Op::Read(var, _) => set_row(&mut self.want, at, row(&marks.written, *var)),
-            Op::Write(var, _) => set_row(&mut marks.written, *var, at),
-            Op::Send(chan, _) => marks.sends.push(&mut marks.next, *chan, at),
+            Op::Read(var, _) => self.note_read(*var, at, event.who),
+            Op::Write(var, _) => {
+                set_row(&mut self.written, *var, at);
+                set_row(&mut self.writers, *var, event.who);
+            }
+            Op::Send(chan, _) => self.sends.push(&mut self.next, *chan, at),
             Op::Recv(chan, _) => {
-                let send = marks.sends.pop(&marks.next, *chan);
+                let send = self.sends.pop(&self.next, *chan);
                 self.pair(send, at);
             }
-            Op::RecvClosed(chan) => set_row(&mut self.want, at, row(&marks.closed, *chan)),
-            Op::Close(chan) => set_row(&mut marks.closed, *chan, at),
-            Op::OnceEnd(once) => set_row(&mut marks.ended, *once, at),
-            Op::OnceDone(once) => set_row(&mut self.want, at, row(&marks.ended, *once)),
-            _ => self.note_lock(marks, trace, at, event),
+            Op::RecvClosed(chan) => {
+                let close = row(&self.closed, *chan);
+                self.pair(close, at);
+            }
+            Op::Close(chan) => set_row(&mut self.closed, *chan, at),
+            Op::OnceEnd(once) => set_row(&mut self.ended, *once, at),
+            Op::OnceDone(once) => {
+                let end = row(&self.ended, *once);
+                self.pair(end, at);
+            }
+            _ => self.note_lock(trace, at, event),
         }
     }
 
-    fn note_lock(&mut self, marks: &mut Marks<A>, trace: &Trace<A>, at: u32, event: &Event) {
+    // A write is paired with a read of another goroutine, where there is one.
+    fn note_read(&mut self, var: u32, at: u32, who: u32) {
+        let write = row(&self.written, var);
+        set_row(&mut self.wants.pair, at, write);
+        if row(&self.writers, var) != who {
+            set_row(&mut self.wants.pair, write, at);
+        }
+    }
+
+    fn note_lock(&mut self, trace: &Trace<A>, at: u32, event: &Event) {
         match &event.op {
-            Op::Lock(lock) => lock_by(marks, *lock, at),
-            Op::TryLock(lock) => lock_by(marks, *lock, at),
-            Op::RLock(lock) => read_lock_by(marks, *lock, at),
-            Op::TryRLock(lock) => read_lock_by(marks, *lock, at),
+            Op::Lock(lock) => self.lock(*lock, at),
+            Op::TryLock(lock) => self.lock(*lock, at),
+            Op::RLock(lock) => self.read_lock(*lock, at),
+            Op::TryRLock(lock) => self.read_lock(*lock, at),
             Op::Unlock(lock) => {
-                self.pair(row(&marks.held, *lock), at);
-                set_row(&mut marks.held, *lock, NONE);
+                let begin = row(&self.held, *lock);
+                self.pair(begin, at);
+                set_row(&mut self.held, *lock, NONE);
             }
             Op::RUnlock(lock) => {
-                let next = &mut marks.next;
-                let begin = marks.readers.pop_own(next, trace, *lock, event.who);
+                let next = &mut self.next;
+                let begin = self.readers.pop_own(next, trace, *lock, event.who);
                 self.pair(begin, at);
             }
-            Op::TryFail(lock) => set_row(&mut self.want, at, held_by(marks, *lock)),
+            Op::TryFail(lock) => {
+                let section = self.section(*lock);
+                set_row(&mut self.wants.pair, at, section);
+            }
             _ => {}
         }
     }
-}
 
-// The section of the lock that is open, or else the last one.
-fn held_by<A: Allocator + Copy>(marks: &Marks<A>, lock: u32) -> u32 {
-    if row(&marks.held, lock) != NONE {
-        row(&marks.held, lock)
-    } else if row(&marks.readers.first, lock) != NONE {
-        row(&marks.readers.last, lock)
-    } else {
-        row(&marks.touched, lock)
+    // The section of the lock that is open, or else the last one.
+    fn section(&self, lock: u32) -> u32 {
+        if row(&self.held, lock) != NONE {
+            row(&self.held, lock)
+        } else if row(&self.readers.first, lock) != NONE {
+            row(&self.readers.last, lock)
+        } else {
+            row(&self.touched, lock)
+        }
     }
-}
 
-fn lock_by<A: Allocator + Copy>(marks: &mut Marks<A>, lock: u32, at: u32) {
-    set_row(&mut marks.held, lock, at);
-    set_row(&mut marks.touched, lock, at);
-}
+    fn lock(&mut self, lock: u32, at: u32) {
+        set_row(&mut self.held, lock, at);
+        set_row(&mut self.touched, lock, at);
+    }
 
-fn read_lock_by<A: Allocator + Copy>(marks: &mut Marks<A>, lock: u32, at: u32) {
-    marks.readers.push(&mut marks.next, lock, at);
-    set_row(&mut marks.touched, lock, at);
+    fn read_lock(&mut self, lock: u32, at: u32) {
+        self.readers.push(&mut self.next, lock, at);
+        set_row(&mut self.touched, lock, at);
+    }
 }

@@ -1,7 +1,7 @@
 -- The events before the index are a run.
 use Rattle.std.proofs.Common.{take}
 use Rattle.race_predict.specs.Attempts.{IsAttempt}
-use Rattle.race_predict.proofs.certify.certify.Given as goal
+use Rattle.race_predict.proofs.certify.test.Given as goal
 
 abbrev pub invariant-loop-k : goal.invariant-loop-k
 invariant-loop-k g l = record {

@@ -1,1 +1,3 @@
 pub mod ExplainedLemmas
+pub mod MarkedLemmas
+pub mod LineLemmas

@@ -1,10 +1,10 @@
 -- What an explanation is: a report, the events that it is about, and words on each, of which nothing is said here.
-use Rattle.std.specs.Prelude.{ℕ, ◌≡◌, List, [], ◌∷◌, ◌++◌, ⊤}
+use Rattle.std.specs.Prelude.{ℕ, ◌≡◌, List, [], ◌∷◌, ◌++◌, MatchOption, ⊤}
 use Rattle.race_records.specs.Events.{TraceState}
 use Rattle.race_text.specs.declared.cause.TextFault.{TextFault}
 use Rattle.race_verdict.specs.{declared.{races.Race.Race, verdict.Verdict.Verdict}, Verdicts.verdict_of}
 use Rattle.race_report.specs.Report.{fault_line, report}
-use Rattle.race_explain.specs.Shown.{event_shown, race_shown}
+use Rattle.race_explain.specs.{Shown.{event_shown, race_shown}, Marked.{line_at, IsMarked}}
 
 -- the text is this, and words after it
 abbrev pub HasWordsAfter : List ℕ → List ℕ → Type 0
@@ -42,6 +42,14 @@ IsSaidOf trace (Verdict.Races races) text = AreRacesShown trace races text
 abbrev pub IsExplained : {A : Type 0} → TraceState → Verdict A → List ℕ → Type 0
 IsExplained trace verdict text = IsPutAfter (IsSaidOf trace verdict) (report trace (verdict_of verdict)) text
 
--- the text is the line of the fault, and words after it
+-- the line of the fault is shown with a mark for its cause; where the bytes have no such line, nothing is
+abbrev pub IsLineShown : List ℕ → TextFault → List ℕ → Type 0
+IsLineShown bytes fault text = MatchOption (line_at bytes fault.line) (text ≡ []) (λ line. IsMarked fault.cause line text)
+
+-- the text is the report of the fault, and words after it
 abbrev pub IsFaultExplained : TextFault → List ℕ → Type 0
 IsFaultExplained fault text = HasWordsAfter (fault_line fault) text
+
+-- first of them is the line of the bytes that has the fault
+abbrev pub IsFaultShown : List ℕ → TextFault → List ℕ → Type 0
+IsFaultShown bytes fault text = IsPutAfter (IsLineShown bytes fault) (fault_line fault) text

@@ -1,2 +1,4 @@
 pub mod Shown
+pub mod Marked
 pub mod Explained
+pub mod Laws

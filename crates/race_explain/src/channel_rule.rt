@@ -29,12 +29,7 @@ pub(crate) fn put_channel_rule<A: Allocator, B: Allocator>(
             put_since(out, trace, at, Deed::Closes(chan), " closed it")
         }
         Rule::BufferFull => {
-            put_number_in(
-                out,
-                ", in whose buffer ",
-                u64::from(waiting(trace, at, chan)),
-                " values wait",
-            )?;
+            put_waiting(out, trace, at, chan, ", in whose buffer ")?;
             put_number_in(out, ", and its capacity is ", capacity(trace, chan), "")
         }
         Rule::BufferEmpty => put_empty(out, trace, at, chan),
@@ -47,12 +42,7 @@ pub(crate) fn put_channel_rule<A: Allocator, B: Allocator>(
             put_later(out, trace, at, Deed::Closes(chan), " does")
         }
         Rule::NotDrained => {
-            put_number_in(
-                out,
-                ", in whose buffer ",
-                u64::from(waiting(trace, at, chan)),
-                " values wait",
-            )?;
+            put_waiting(out, trace, at, chan, ", in whose buffer ")?;
             put_front(out, trace, at, chan)
         }
         _ => Ok(()),
@@ -76,6 +66,22 @@ fn capacity<A: Allocator>(trace: &Trace<A>, chan: u32) -> u64 {
         u64::from(trace.decls().capacity(chan))
     } else {
         0
+    }
+}
+
+// How many values wait in the channel's buffer.
+fn put_waiting<A: Allocator, B: Allocator>(
+    out: &mut Vec<u8, A>,
+    trace: &Trace<B>,
+    at: u32,
+    chan: u32,
+    before: &str,
+) -> Result<(), AllocError> {
+    put(out, &[before])?;
+    match waiting(trace, at, chan) {
+        0 => put(out, &["no value waits"]),
+        1 => put(out, &["1 value waits"]),
+        count => put_number_in(out, "", u64::from(count), " values wait"),
     }
 }
 
@@ -149,10 +155,10 @@ fn put_front<A: Allocator, B: Allocator>(
                 out,
                 "; the value that waits longest is ",
                 value_of(trace, send),
-                ", sent by ",
+                ", which ",
             )?;
-            put_at(out, trace, "", send, ", by ")?;
-            put(out, &[who_at(trace, send)])
+            put(out, &[who_at(trace, send)])?;
+            put_at(out, trace, " sent in ", send, "")
         }
         None => Ok(()),
     }
@@ -213,11 +219,6 @@ fn put_ready_case<A: Allocator, B: Allocator>(
     if let Some(close) = last_before(trace, at, Deed::Closes(chan)) {
         return put_at(out, trace, "", close, " closed the channel");
     }
-    put_number_in(
-        out,
-        "in its buffer ",
-        u64::from(waiting(trace, at, chan)),
-        " values wait",
-    )?;
+    put_waiting(out, trace, at, chan, "in its buffer ")?;
     put_number_in(out, ", and its capacity is ", capacity(trace, chan), "")
 }

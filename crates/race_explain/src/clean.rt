@@ -9,62 +9,34 @@ use std::alloc::{AllocError, Allocator};
 /// How many names are listed of a kind at most.
 const LISTED: u32 = 8;
 
+// What is declared: how it is counted, and what is said of what isn't used.
+const KINDS: [(Kind, &str, &str); 5] = [
+    (
+        Kind::Goroutine,
+        "goroutines ",
+        "goroutines that no event starts: ",
+    ),
+    (Kind::Var, ", variables ", "variables that no event names: "),
+    (Kind::Chan, ", channels ", "channels that no event names: "),
+    (Kind::Lock, ", locks ", "locks that no event names: "),
+    (Kind::Once, ", onces ", "onces that no event names: "),
+];
+
 /// Puts how many of what is declared is used, what isn't, and whether the run ended.
 pub(crate) fn put_seen<A: Allocator + Copy, B: Allocator>(
     out: &mut Vec<u8, A>,
     trace: &Trace<B>,
 ) -> Result<(), AllocError> {
     let alloc = *out.allocator();
-    let goroutines = used(alloc, trace, Kind::Goroutine)?;
-    let vars = used(alloc, trace, Kind::Var)?;
-    let chans = used(alloc, trace, Kind::Chan)?;
-    let locks = used(alloc, trace, Kind::Lock)?;
-    let onces = used(alloc, trace, Kind::Once)?;
-    put_count(
-        out,
-        "used of what is declared: goroutines ",
-        goroutines.as_slice(),
-    )?;
-    put_count(out, ", variables ", vars.as_slice())?;
-    put_count(out, ", channels ", chans.as_slice())?;
-    put_count(out, ", locks ", locks.as_slice())?;
-    put_count(out, ", onces ", onces.as_slice())?;
+    let mut unused = Vec::new(alloc);
+    put(out, &["used of what is declared: "])?;
+    for (kind, counted, what) in &KINDS {
+        let used = used(alloc, trace, *kind)?;
+        put_count(out, counted, used.as_slice())?;
+        put_unused(&mut unused, trace, what, *kind, used.as_slice())?;
+    }
     put(out, &["\n"])?;
-    put_unused(
-        out,
-        trace,
-        "goroutines that no event starts: ",
-        Kind::Goroutine,
-        goroutines.as_slice(),
-    )?;
-    put_unused(
-        out,
-        trace,
-        "variables that no event names: ",
-        Kind::Var,
-        vars.as_slice(),
-    )?;
-    put_unused(
-        out,
-        trace,
-        "channels that no event names: ",
-        Kind::Chan,
-        chans.as_slice(),
-    )?;
-    put_unused(
-        out,
-        trace,
-        "locks that no event names: ",
-        Kind::Lock,
-        locks.as_slice(),
-    )?;
-    put_unused(
-        out,
-        trace,
-        "onces that no event names: ",
-        Kind::Once,
-        onces.as_slice(),
-    )?;
+    out.extend_from_slice(unused.as_slice())?;
     put_end(out, trace)
 }
 

@@ -3,11 +3,12 @@ ghost use Rattle.std.specs.Prelude.{◌≡◌, ◌<◌, ◌++◌, All, length, I
 ghost use Rattle.race_verdict.specs.{Traces.{capacities, HasVerdict}, Verdicts.verdict_of};
 ghost use Rattle.race_shards.specs.Witness.{RacesInOrder};
 ghost use Rattle.race_explain.specs.Explained as spec;
+ghost use Rattle.race_explain.specs.Marked.{IsMarked};
 
 use crate::clean::put_seen;
 use crate::fault::{Faulty, put_faulty};
 use crate::illegal::put_reason;
-use crate::line::cut_out;
+use crate::line::{Cut, cut_out};
 use crate::race::{MOST_STEPS, put_words};
 use crate::shown::{put_event_line, put_fault, put_race, put_report};
 use race_legal::Illegal;
@@ -22,37 +23,37 @@ pub fn explain_fault<A: Allocator + Copy>(
     bytes: &[u8],
     fault: &TextFault,
 ) -> Result<Vec<u8, A>, AllocError>
-    ensures { IfOk result (λ text. spec.IsFaultExplained fault.now text.items) }
+    ensures reports { IfOk result (λ text. spec.IsFaultExplained fault.now text.items) }
+    ensures shows { IfOk result (λ text. spec.IsFaultShown bytes.now fault.now text.items) }
 {
-    let words = fault_words(alloc, bytes, fault)?;
     let mut out = Vec::new(alloc);
     put_fault(&mut out, fault)?;
-    out.extend_from_slice(words.as_slice())?;
+    if let Some(cut) = cut_out(bytes, fault.line) {
+        put_cut(&mut out, fault, cut)?;
+    }
     Ok(out)
 }
 
 // The line with its fault marked, and what is wrong.
-fn fault_words<A: Allocator + Copy>(
-    alloc: A,
-    bytes: &[u8],
+fn put_cut<A: Allocator + Copy>(
+    out: &mut Vec<u8, A>,
     fault: &TextFault,
-) -> Result<Vec<u8, A>, AllocError> {
-    let mut words = Vec::new(alloc);
-    let Some((before, line)) = cut_out(bytes, fault.line) else {
-        return Ok(words);
-    };
+    cut: Cut<'_>,
+) -> Result<(), AllocError>
+    ensures { OnOk result (spec.IsPutAfter (IsMarked fault.now.cause cut.entry.line.now) out.old.items out.new.items) }
+{
     let before = if is_of_words(fault.cause) {
-        read_before(alloc, before)?
+        read_before(*out.allocator(), cut.before)?
     } else {
         None
     };
     let faulty = Faulty {
         fault: *fault,
-        line,
+        line: cut.line,
         before,
+        after: cut.after,
     };
-    put_faulty(&mut words, &faulty)?;
-    Ok(words)
+    put_faulty(out, &faulty)
 }
 
 // Whether the cause goes by what the lines before declare.

@@ -1,56 +1,66 @@
 //! A line at fault: where it is marked, and what is wrong.
+ghost use Rattle.std.specs.Prelude.{OnOk};
+ghost use Rattle.race_explain.specs.Explained as spec;
+ghost use Rattle.race_explain.specs.Marked.{IsMarkFor, IsMarked};
 
-use crate::header::looks_like;
+use crate::header::{header_column, looks_like};
 use crate::line::put_line;
-use crate::operand::{put_whole_line, put_word};
+use crate::operand::{name_in, put_whole_line, put_word};
 use crate::put::put;
 use crate::sentence::{put_bad_byte, put_count, put_unended, put_unknown_word};
-use crate::word::{FaultyWord, bad_column, count_column, faulty_word};
+use crate::word::{bad_column, count_column, faulty_word};
 use race_records::Trace;
 use race_text::{TextCause, TextFault, cut_at, word_named};
 use std::alloc::{AllocError, Allocator};
 
-/// A line at fault, and the trace that is read from the lines before it.
+/// A line at fault, the trace that is read from the lines before it, and what of the input follows it.
 #[derive(Drop)]
 pub(crate) struct Faulty<'a, A: Allocator> {
     pub(crate) fault: TextFault,
     pub(crate) line: &'a [u8],
     pub(crate) before: Option<Trace<A>>,
+    pub(crate) after: Option<&'a [u8]>,
 }
 
 // Where the line is marked: at the byte or the word that is wrong, or at its end where something is missing.
-fn column_of<A: Allocator>(faulty: &Faulty<'_, A>) -> usize {
+fn column_of<A: Allocator>(faulty: &Faulty<'_, A>) -> usize
+    ensures { IsMarkFor faulty.now.fault.cause faulty.now.line.now result }
+{
     let line = faulty.line;
     match faulty.fault.cause {
+        TextCause::BadHeader => header_column(line),
         TextCause::NoNewline => line.len(),
         TextCause::BadByte => bad_column(line),
         TextCause::WrongCount => match word_named(cut_at(line, b' ').0) {
             Some(word) => count_column(word, line),
             None => 0,
         },
-        cause => match word_of(faulty, cause) {
-            Some(found) => found.column,
+        cause => match &faulty.before {
+            Some(before) => match faulty_word(before.decls(), line, cause) {
+                Some(found) => {
+                    let name_column = name_in(before.decls(), &found, cause).1;
+                    found.column.saturating_add(name_column)
+                }
+                None => 0,
+            },
             None => 0,
         },
     }
 }
 
-// The word at which the cause holds, where the lines before say what is declared.
-fn word_of<'a, A: Allocator>(faulty: &Faulty<'a, A>, cause: TextCause) -> Option<FaultyWord<'a>> {
-    match &faulty.before {
-        Some(before) => faulty_word(before.decls(), faulty.line, cause),
-        None => None,
-    }
-}
-
 /// Puts the line with its mark, and what is wrong.
-pub(crate) fn put_faulty<A: Allocator, B: Allocator>(
+pub(crate) fn put_faulty<A: Allocator + Copy, B: Allocator>(
     out: &mut Vec<u8, A>,
     faulty: &Faulty<'_, B>,
-) -> Result<(), AllocError> {
+) -> Result<(), AllocError>
+    ensures { OnOk result (spec.IsPutAfter (IsMarked faulty.now.fault.cause faulty.now.line.now) out.old.items out.new.items) }
+{
+    let mut words = Vec::new(*out.allocator());
+    put_sentence(&mut words, faulty)?;
+    put(&mut words, &["\n"])?;
     put_line(out, faulty.line, column_of(faulty))?;
-    put_sentence(out, faulty)?;
-    put(out, &["\n"])
+    out.extend_from_slice(words.as_slice())?;
+    Ok(())
 }
 
 fn put_sentence<A: Allocator, B: Allocator>(
@@ -65,7 +75,7 @@ fn put_sentence<A: Allocator, B: Allocator>(
         TextCause::WrongCount => put_count(out, faulty.line),
         cause => match &faulty.before {
             Some(before) => match faulty_word(before.decls(), faulty.line, cause) {
-                Some(found) => put_word(out, before, cause, &found),
+                Some(found) => put_word(out, faulty, before, &found),
                 None => put_whole_line(out, before, cause, faulty.line),
             },
             None => Ok(()),

@@ -8,7 +8,7 @@ use race_records::{Kind, OperandKind, operand_kinds};
 use race_text::{Field, Word};
 use std::alloc::{AllocError, Allocator};
 
-/// What stands after the first word, in order.
+/// What comes after the first word, in order.
 pub(crate) fn fields_of(word: Word) -> ArrayVec<Field, 6>
     ensures { result.items ≡ fields_of word }
 {

@@ -52,7 +52,7 @@ const FRONTS: [(&[u8], &str); 14] = [
         b"[",
         "the input looks like JSON: a trace is a text of lines, which begins with gotrace 1 or gotrace 2",
     ),
-    (b" ", "a blank stands before the header"),
+    (b" ", "a blank comes before the header"),
     (
         b"#",
         "a trace has no comments: its first line is gotrace 1 or gotrace 2",
@@ -97,12 +97,53 @@ fn looks_like_version(rest: Option<&[u8]>) -> &'static str {
         return "the version is missing: gotrace 1 or gotrace 2";
     };
     let (first, others) = cut_at(version, b'\r');
-    if others.is_some() && (first == b"1".as_slice() || first == b"2".as_slice()) {
-        return "the lines end as Windows ends them: tr -d '\\r' < FILE | gorace explain";
+    if let Some(others) = others {
+        if is_version(first) {
+            return returned_text(others);
+        }
     }
     let (first, others) = cut_at(version, b' ');
-    if others.is_some() && (first == b"1".as_slice() || first == b"2".as_slice()) {
-        return "a blank or a word stands after the header: the first line is gotrace 1 or gotrace 2 alone";
+    if others.is_some() && is_version(first) {
+        return "a blank or a word comes after the header: the first line is gotrace 1 or gotrace 2 alone";
+    }
+    if first.is_empty() {
+        return "one blank separates gotrace from the version: gotrace 1 or gotrace 2";
+    }
+    if first.len() > 1 && first[0] == b'0' {
+        return "the version has no leading zero: gotrace 1 or gotrace 2";
     }
     "there is no such version: gorace reads gotrace 1 and gotrace 2"
+}
+
+fn is_version(word: &[u8]) -> bool {
+    word == b"1".as_slice() || word == b"2".as_slice()
+}
+
+// What a carriage return after the header says of the lines, by what follows it up to a newline.
+fn returned_text(others: &[u8]) -> &'static str {
+    if others.is_empty() {
+        "the lines end as Windows ends them: tr -d '\\r' < FILE | gorace explain"
+    } else {
+        "the lines end with a carriage return alone: tr '\\r' '\\n' < FILE | gorace explain"
+    }
+}
+
+/// Where a first line that begins with gotrace differs from a header; another is wrong from its start.
+pub(crate) fn header_column(line: &[u8]) -> usize {
+    if cut_at(line, b' ').0 != b"gotrace".as_slice() {
+        return 0;
+    }
+    let header = if line.len() > 8 && line[8] == b'2' {
+        b"gotrace 2"
+    } else {
+        b"gotrace 1"
+    };
+    let mut column = 0usize;
+    for index in 0..header.len().min(line.len()) {
+        if header[index] != line[index] {
+            return column;
+        }
+        column = column.saturating_add(1);
+    }
+    column
 }

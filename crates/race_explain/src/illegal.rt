@@ -115,8 +115,8 @@ pub(crate) fn put_later<A: Allocator, B: Allocator>(
 ) -> Result<(), AllocError> {
     match first_after(trace, at, deed) {
         Some(later) => {
-            put_at(out, trace, ", and ", later, what)?;
-            put(out, &[", which comes later"])
+            put_at(out, trace, "; ", later, what)?;
+            put(out, &[", but comes later"])
         }
         None => Ok(()),
     }
@@ -154,22 +154,15 @@ fn put_no_fault<A: Allocator, B: Allocator>(
         Cause::CloseClosed(chan) => put_open(out, trace, at, *chan),
         Cause::CloseNil => Ok(()),
         Cause::UnlockFree(lock) => {
-            put(
-                out,
-                &[
-                    name_of(trace, Named::Lock(*lock)),
-                    " is locked, so its unlock doesn't fail",
-                ],
-            )?;
+            put(out, &[name_of(trace, Named::Lock(*lock))])?;
+            put(out, &[" is locked, so its unlock doesn't fail"])?;
             put_since(out, trace, at, Deed::Locks(*lock), " locked it")
         }
         Cause::RUnlockFree(lock) => {
+            put(out, &[name_of(trace, Named::Lock(*lock))])?;
             put(
                 out,
-                &[
-                    name_of(trace, Named::Lock(*lock)),
-                    " is locked for reading, so its runlock doesn't fail",
-                ],
+                &[" is locked for reading, so its runlock doesn't fail"],
             )?;
             put_since(out, trace, at, Deed::ReadLocks(*lock), " locked it")
         }
@@ -186,13 +179,13 @@ fn put_open<A: Allocator, B: Allocator>(
         out,
         &[
             name_of(trace, Named::Chan(chan)),
-            " is open, so this doesn't fail: no event before closes it",
+            " is open, so this doesn't fail: no event before this one closes it",
         ],
     )?;
     put_later(out, trace, at, Deed::Closes(chan), " does")
 }
 
-/// Puts which event did so last before this one.
+/// Puts which event did so last before this one, and whose it is.
 pub(crate) fn put_since<A: Allocator, B: Allocator>(
     out: &mut Vec<u8, A>,
     trace: &Trace<B>,
@@ -202,8 +195,8 @@ pub(crate) fn put_since<A: Allocator, B: Allocator>(
 ) -> Result<(), AllocError> {
     match last_before(trace, at, deed) {
         Some(since) => {
-            put_at(out, trace, ": ", since, what)?;
-            put(out, &[", by ", who_at(trace, since)])
+            put_at(out, trace, ": ", since, ", by ")?;
+            put(out, &[who_at(trace, since), ",", what])
         }
         None => Ok(()),
     }

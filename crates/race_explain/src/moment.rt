@@ -1,91 +1,10 @@
 //! What a goroutine had locked before an event, and by which event it was synchronized last.
 
+use crate::holding::{Holding, held_before};
 use crate::names::{event_at, goroutine, name_of, place_of};
 use crate::put::put;
 use race_records::{Event, Named, Op, Trace};
 use std::alloc::{AllocError, Allocator};
-
-/// A lock that a goroutine locked and nobody has unlocked.
-#[derive(Clone, Copy)]
-struct Holding {
-    lock: u32,
-    reading: bool,
-    who: u32,
-    place: u32,
-}
-
-// What an event locks.
-fn locked_by(event: &Event) -> Option<Holding> {
-    let (lock, reading) = match event.op {
-        Op::Lock(lock) => (lock, false),
-        Op::TryLock(lock) => (lock, false),
-        Op::RLock(lock) => (lock, true),
-        Op::TryRLock(lock) => (lock, true),
-        _ => return None,
-    };
-    Some(Holding {
-        lock,
-        reading,
-        who: event.who,
-        place: event.place,
-    })
-}
-
-// Which lock an event unlocks, and whether from reading.
-fn unlocked_by(event: &Event) -> Option<(u32, bool)> {
-    match event.op {
-        Op::Unlock(lock) => Some((lock, false)),
-        Op::RUnlock(lock) => Some((lock, true)),
-        _ => None,
-    }
-}
-
-// Which holding ends where the goroutine unlocks: its own, and else the last of another.
-fn ended(held: &[Holding], who: u32, lock: u32, reading: bool) -> Option<usize> {
-    let mut found = None;
-    let mut is_own = false;
-    for index in 0..held.len() {
-        let holding = held[index];
-        if holding.lock == lock && holding.reading == reading {
-            if holding.who == who || !is_own {
-                found = Some(index);
-            }
-            is_own = is_own || holding.who == who;
-        }
-    }
-    found
-}
-
-// What is locked before the event at the index.
-fn held_before<A: Allocator + Copy, B: Allocator>(
-    alloc: A,
-    trace: &Trace<B>,
-    before: u32,
-) -> Result<Vec<Holding, A>, AllocError> {
-    let mut held: Vec<Holding, A> = Vec::new(alloc);
-    let mut at = 0;
-    for event in trace.events() {
-        if at >= before {
-            return Ok(held);
-        }
-        if let Some(holding) = locked_by(event) {
-            held.push(holding)?;
-        }
-        if let Some((lock, reading)) = unlocked_by(event) {
-            end(&mut held, event.who, lock, reading);
-        }
-        at = at.saturating_add(1);
-    }
-    Ok(held)
-}
-
-fn end<A: Allocator>(held: &mut Vec<Holding, A>, who: u32, lock: u32, reading: bool) {
-    if let Some(index) = ended(held.as_slice(), who, lock, reading) {
-        if index < held.len() {
-            held.remove(index);
-        }
-    }
-}
 
 /// Puts what the goroutine had locked before the event, and its last synchronization before it.
 pub(crate) fn put_moment<A: Allocator + Copy, B: Allocator>(

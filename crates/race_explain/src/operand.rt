@@ -2,6 +2,7 @@
 ghost use Rattle.std.specs.Prelude.{◌≡◌, true};
 ghost use Rattle.race_records.specs.Name.{is_name};
 
+use crate::fault::Faulty;
 use crate::field::{form_of, one_of};
 use crate::line::put_quoted;
 use crate::put::{put, put_at, put_number_in};
@@ -10,24 +11,113 @@ use race_records::{Decls, Kind, Named, Object, OperandKind, Trace, is_name};
 use race_text::{Field, TextCause, Word, cut_at, word_named};
 use std::alloc::{AllocError, Allocator};
 
-/// What is wrong with a word after the first, where the lines before are read.
+/// What is wrong with a word after the first of the line, where the lines before are read.
 pub(crate) fn put_word<A: Allocator, B: Allocator>(
     out: &mut Vec<u8, A>,
+    faulty: &Faulty<'_, B>,
     before: &Trace<B>,
+    found: &FaultyWord<'_>,
+) -> Result<(), AllocError> {
+    let cause = faulty.fault.cause;
+    let name = name_in(before.decls(), found, cause).0;
+    match cause {
+        TextCause::Taken => put_taken(out, before.decls(), name),
+        TextCause::Unknown => put_unknown(out, faulty, name),
+        TextCause::WrongKind => put_wrong_kind(out, before.decls(), found, name),
+        TextCause::TooMany => {
+            put_quoted(out, found.word)?;
+            put(out, &[" has more than 16 cases"])
+        }
+        _ => put_bad_form(out, cause, found),
+    }
+}
+
+/// The name in the word at which the cause holds, and where it begins in the word. Of a list the first one.
+pub(crate) fn name_in<'a, A: Allocator>(
+    decls: &Decls<A>,
+    found: &FaultyWord<'a>,
+    cause: TextCause,
+) -> (&'a [u8], usize) {
+    if !is_list(found.field) {
+        return (found.word, 0);
+    }
+    let mut left = Some(found.word);
+    for _ in 0..found.word.len() {
+        let Some(bytes) = left else {
+            return (found.word, 0);
+        };
+        let (case, others) = cut_at(bytes, b',');
+        if let Some(name) = cut_at(case, b':').1 {
+            if is_faulty(decls, found.field, name, cause) {
+                let skipped = found.word.len().saturating_sub(bytes.len());
+                return (
+                    name,
+                    skipped.saturating_add(case.len().saturating_sub(name.len())),
+                );
+            }
+        }
+        left = others;
+    }
+    (found.word, 0)
+}
+
+// Whether the word has names after other words.
+fn is_list(field: Field) -> bool {
+    match field {
+        Field::Operand(OperandKind::Cases) => true,
+        Field::Operand(OperandKind::Cause) => true,
+        _ => false,
+    }
+}
+
+// Whether the cause holds at the name. Of a fault's one name it does.
+fn is_faulty<A: Allocator>(decls: &Decls<A>, field: Field, name: &[u8], cause: TextCause) -> bool {
+    if field == Field::Operand(OperandKind::Cause) {
+        return cause == TextCause::Unknown || cause == TextCause::WrongKind;
+    }
+    match object_of(decls, name) {
+        None => cause == TextCause::Unknown && name != b"nil".as_slice(),
+        Some(Named::Chan(_)) => false,
+        Some(_) => cause == TextCause::WrongKind,
+    }
+}
+
+// What is said of a word that hasn't its form.
+fn put_bad_form<A: Allocator>(
+    out: &mut Vec<u8, A>,
     cause: TextCause,
     found: &FaultyWord<'_>,
 ) -> Result<(), AllocError> {
-    put_quoted(out, found.word)?;
-    match cause {
-        TextCause::Taken => put_taken(out, before.decls(), found.word),
-        TextCause::Unknown => put(out, &[unknown_text(found.field)]),
-        TextCause::WrongKind => put_wrong_kind(out, before.decls(), found),
-        TextCause::TooMany => put(out, &[" has more than 16 cases"]),
-        _ => put(
+    if found.word.is_empty() {
+        put(
             out,
-            &[" isn't ", one_of(found.field), ": ", form_of(found.field)],
-        ),
+            &["the empty word, between two blanks or after the last one,"],
+        )?;
+    } else {
+        put_quoted(out, found.word)?;
     }
+    if cause == TextCause::BadNumber && is_of_digits(found.word) {
+        let what = if found.word.starts_with(b"0") {
+            " has a leading zero: "
+        } else {
+            " is too large: "
+        };
+        return put(out, &[what, form_of(found.field)]);
+    }
+    put(
+        out,
+        &[" isn't ", one_of(found.field), ": ", form_of(found.field)],
+    )
+}
+
+// Whether the word has digits alone, and at least one.
+fn is_of_digits(word: &[u8]) -> bool {
+    for byte in word {
+        if !(b'0' <= *byte && *byte <= b'9') {
+            return false;
+        }
+    }
+    !word.is_empty()
 }
 
 // The object of this name, if there is one.
@@ -51,6 +141,7 @@ fn put_taken<A: Allocator, B: Allocator>(
     decls: &Decls<B>,
     word: &[u8],
 ) -> Result<(), AllocError> {
+    put_quoted(out, word)?;
     match object_of(decls, word) {
         Some(Named::Goroutine(0)) => put(out, &[" is the first goroutine, which no line declares"]),
         Some(named) => {
@@ -92,12 +183,41 @@ fn object_name(object: Object) -> &'static str {
     }
 }
 
-fn unknown_text(field: Field) -> &'static str {
-    match field {
-        Field::Operand(OperandKind::Cases) | Field::Operand(OperandKind::Cause) => {
-            " has a name that no line before declares"
+// What is said of a name that isn't declared, and which line declares it only later.
+fn put_unknown<A: Allocator, B: Allocator>(
+    out: &mut Vec<u8, A>,
+    faulty: &Faulty<'_, B>,
+    name: &[u8],
+) -> Result<(), AllocError> {
+    put_quoted(out, name)?;
+    put(out, &[" is declared by no line before"])?;
+    match declared_after(faulty, name) {
+        Some(line) => put_number_in(out, "; line ", line, " declares it, but comes later"),
+        None => Ok(()),
+    }
+}
+
+// Which line after the one at fault declares the name.
+fn declared_after<A: Allocator>(faulty: &Faulty<'_, A>, name: &[u8]) -> Option<u64> {
+    let mut left = faulty.after?;
+    let mut number = faulty.fault.line;
+    for _ in 0..left.len() {
+        let (line, others) = cut_at(left, b'\n');
+        number = number.saturating_add(1);
+        if declares(line, name) {
+            return Some(number);
         }
-        _ => " is declared by no line before",
+        left = others?;
+    }
+    None
+}
+
+// Whether the line declares the name.
+fn declares(line: &[u8], name: &[u8]) -> bool {
+    let (first, words) = cut_at(line, b' ');
+    match (word_named(first), words) {
+        (Some(Word::Declares(_)), Some(words)) => cut_at(words, b' ').0 == name,
+        _ => false,
     }
 }
 
@@ -106,30 +226,36 @@ fn put_wrong_kind<A: Allocator, B: Allocator>(
     out: &mut Vec<u8, A>,
     decls: &Decls<B>,
     found: &FaultyWord<'_>,
+    name: &[u8],
 ) -> Result<(), AllocError> {
+    put_quoted(out, name)?;
+    put(
+        out,
+        &[
+            " isn't ",
+            wanted(found),
+            ", which is wanted here; it is declared",
+        ],
+    )?;
+    match object_of(decls, name) {
+        Some(Named::Goroutine(0)) => put(out, &[" as a goroutine from the start"]),
+        Some(named) => put_declared(out, decls, named),
+        None => Ok(()),
+    }
+}
+
+// What is wanted where the word has a name.
+fn wanted(found: &FaultyWord<'_>) -> &'static str {
     match found.field {
-        Field::Operand(OperandKind::Cases) => put(out, &[" has a name that isn't a channel's"]),
-        Field::Operand(OperandKind::Cause) => put(
-            out,
-            &[
-                " has a name of another kind: send and close want a channel, unlock a lock, runlock an rwmutex",
-            ],
-        ),
-        field => {
-            put(
-                out,
-                &[
-                    " isn't ",
-                    one_of(field),
-                    ", which is wanted here; it is declared",
-                ],
-            )?;
-            match object_of(decls, found.word) {
-                Some(Named::Goroutine(0)) => put(out, &[" as a goroutine from the start"]),
-                Some(named) => put_declared(out, decls, named),
-                None => Ok(()),
-            }
-        }
+        Field::Operand(OperandKind::Cases) => "a channel",
+        Field::Operand(OperandKind::Cause) => if found.word.starts_with(b"unlock:") {
+            "a lock"
+        } else if found.word.starts_with(b"runlock:") {
+            "an rwmutex"
+        } else {
+            "a channel"
+        },
+        field => one_of(field),
     }
 }
 

@@ -1,5 +1,6 @@
 //! Why an event on a variable, a lock or a once breaks its rule.
 
+use crate::holding::put_holders;
 use crate::illegal::{put_later, put_since};
 use crate::names::{event_at, goroutine, name_of, who_at};
 use crate::past::{Deed, first_after, is_locked, last_before, readers};
@@ -72,103 +73,134 @@ pub(crate) fn value_of<A: Allocator>(trace: &Trace<A>, at: u32) -> u64 {
 }
 
 /// A lock that isn't free, or an unlock of a free one.
-pub(crate) fn put_lock_rule<A: Allocator, B: Allocator>(
+pub(crate) fn put_lock_rule<A: Allocator + Copy, B: Allocator>(
     out: &mut Vec<u8, A>,
     trace: &Trace<B>,
     at: u32,
     event: &Event,
 ) -> Result<(), AllocError> {
     match event.op {
-        Op::Lock(lock) => put_not_free(out, trace, at, lock),
-        Op::TryLock(lock) => put_not_free(out, trace, at, lock),
-        Op::RLock(lock) => put_not_free(out, trace, at, lock),
-        Op::TryRLock(lock) => put_not_free(out, trace, at, lock),
-        Op::Unlock(lock) => put_not_locked(out, trace, at, lock),
-        Op::RUnlock(lock) => put_not_read_locked(out, trace, at, lock),
+        Op::Lock(lock) => put_not_free(out, trace, at, event.who, lock),
+        Op::TryLock(lock) => put_not_free(out, trace, at, event.who, lock),
+        Op::RLock(lock) => put_not_free(out, trace, at, event.who, lock),
+        Op::TryRLock(lock) => put_not_free(out, trace, at, event.who, lock),
+        Op::Unlock(lock) => put_not_held(out, trace, at, lock, WRITING, READING),
+        Op::RUnlock(lock) => put_not_held(out, trace, at, lock, READING, WRITING),
         _ => Ok(()),
     }
 }
 
-// By whom the lock is locked, or locked for reading.
-fn put_not_free<A: Allocator, B: Allocator>(
+// Who holds the lock, and which event unlocks it only later.
+fn put_not_free<A: Allocator + Copy, B: Allocator>(
     out: &mut Vec<u8, A>,
     trace: &Trace<B>,
     at: u32,
+    who: u32,
     lock: u32,
 ) -> Result<(), AllocError> {
-    let name = name_of(trace, Named::Lock(lock));
+    put_holders(out, trace, at, who, lock)?;
     if is_locked(trace, at, lock) {
-        put(out, &[name, " is locked"])?;
-        put_since(out, trace, at, Deed::Locks(lock), " locked it")?;
-        put(out, &[", and no event since unlocks it"])?;
-        return put_later(out, trace, at, Deed::Unlocks(lock), " does");
+        put_later(out, trace, at, Deed::Unlocks(lock), " unlocks it")
+    } else {
+        put_later(
+            out,
+            trace,
+            at,
+            Deed::ReadUnlocks(lock),
+            " unlocks it from reading",
+        )
     }
-    put(out, &[name, " is locked for reading"])?;
-    put_number_in(
-        out,
-        ", as often as ",
-        u64::from(readers(trace, at, lock)),
-        "",
-    )?;
-    put_since(out, trace, at, Deed::ReadLocks(lock), " locked it last")?;
-    put_later(
-        out,
-        trace,
-        at,
-        Deed::ReadUnlocks(lock),
-        " unlocks it from reading",
-    )
 }
 
-fn put_not_locked<A: Allocator, B: Allocator>(
+/// A way to hold a lock.
+#[derive(Clone, Copy)]
+struct Mode {
+    reading: bool,
+    /// What is said of a lock that isn't held so.
+    unheld: &'static str,
+    /// What is said of it where it is held the other way.
+    held_else: &'static str,
+}
+
+const WRITING: Mode = Mode {
+    reading: false,
+    unheld: " isn't locked",
+    held_else: " isn't locked, but locked for reading, which a runlock ends",
+};
+
+const READING: Mode = Mode {
+    reading: true,
+    unheld: " isn't locked for reading",
+    held_else: " isn't locked for reading, but for writing, which an unlock ends",
+};
+
+// What locks so, and what unlocks.
+fn deeds(mode: Mode, lock: u32) -> (Deed, Deed) {
+    if mode.reading {
+        (Deed::ReadLocks(lock), Deed::ReadUnlocks(lock))
+    } else {
+        (Deed::Locks(lock), Deed::Unlocks(lock))
+    }
+}
+
+// Whether the lock is held so before the event at the index.
+fn is_held<A: Allocator>(trace: &Trace<A>, at: u32, lock: u32, mode: Mode) -> bool {
+    if mode.reading {
+        readers(trace, at, lock) > 0
+    } else {
+        is_locked(trace, at, lock)
+    }
+}
+
+// Who unlocked the lock before, or that it is locked the other way.
+fn put_not_held<A: Allocator, B: Allocator>(
     out: &mut Vec<u8, A>,
     trace: &Trace<B>,
     at: u32,
     lock: u32,
+    mode: Mode,
+    other: Mode,
 ) -> Result<(), AllocError> {
     let name = name_of(trace, Named::Lock(lock));
-    if readers(trace, at, lock) > 0 {
-        put(
-            out,
-            &[
-                name,
-                " isn't locked, but locked for reading, which a runlock ends",
-            ],
-        )?;
-        return put_since(out, trace, at, Deed::ReadLocks(lock), " locked it");
+    if is_held(trace, at, lock, other) {
+        put(out, &[name])?;
+        put(out, &[mode.held_else])?;
+        return put_since(out, trace, at, deeds(other, lock).0, " locked it");
     }
-    put(out, &[name, " isn't locked"])?;
-    match last_before(trace, at, Deed::Unlocks(lock)) {
-        Some(_) => put_since(out, trace, at, Deed::Unlocks(lock), " unlocked it"),
-        None => put(out, &[": no event before this one locks it"]),
+    put(out, &[name])?;
+    put(out, &[mode.unheld])?;
+    let (locks, unlocks) = deeds(mode, lock);
+    match last_before(trace, at, unlocks) {
+        Some(unlock) => {
+            put_since(out, trace, at, unlocks, " unlocked it")?;
+            put_other_locker(out, trace, unlock, locks)
+        }
+        None => {
+            put(out, &[": no event before this one locks it"])?;
+            put_later(out, trace, at, locks, " does")
+        }
     }
 }
 
-fn put_not_read_locked<A: Allocator, B: Allocator>(
+// Who had locked what another goroutine unlocked, if another did.
+fn put_other_locker<A: Allocator, B: Allocator>(
     out: &mut Vec<u8, A>,
     trace: &Trace<B>,
-    at: u32,
-    lock: u32,
+    unlock: u32,
+    locks: Deed,
 ) -> Result<(), AllocError> {
-    let name = name_of(trace, Named::Lock(lock));
-    if is_locked(trace, at, lock) {
-        put(
-            out,
-            &[
-                name,
-                " isn't locked for reading, but for writing, which an unlock ends",
-            ],
-        )?;
-        return put_since(out, trace, at, Deed::Locks(lock), " locked it");
-    }
-    put(out, &[name, " isn't locked for reading"])?;
-    match last_before(trace, at, Deed::ReadUnlocks(lock)) {
-        Some(_) => put_since(out, trace, at, Deed::ReadUnlocks(lock), " unlocked it"),
-        None => put(out, &[": no event before this one locks it"]),
+    match last_before(trace, unlock, locks) {
+        Some(lock) => if who_at(trace, lock) == who_at(trace, unlock) {
+            Ok(())
+        } else {
+            put(out, &[", which ", who_at(trace, lock)])?;
+            put_at(out, trace, " had locked in ", lock, "")
+        },
+        None => Ok(()),
     }
 }
 
-/// A once that is begun again, ended by who isn't in it, found done too early, or left.
+/// A once that begins again, ends where its goroutine isn't in it, is found done too early, or is left.
 pub(crate) fn put_once_rule<A: Allocator + Copy, B: Allocator>(
     out: &mut Vec<u8, A>,
     trace: &Trace<B>,
@@ -183,13 +215,29 @@ pub(crate) fn put_once_rule<A: Allocator + Copy, B: Allocator>(
         }
         Op::OnceDone(once) => {
             put_function(out, trace, once)?;
-            put(out, &[" hasn't ended"])?;
-            match last_before(trace, at, Deed::Begins(once)) {
-                Some(_) => put_since(out, trace, at, Deed::Begins(once), " began it"),
-                None => put(out, &[": no event before this one begins it"]),
-            }
+            put_not_done(out, trace, at, once)
         }
         _ => put_innermost(out, trace, at, event.who),
+    }
+}
+
+// By which event the function began, or that it didn't, and which event ends it only later.
+fn put_not_done<A: Allocator, B: Allocator>(
+    out: &mut Vec<u8, A>,
+    trace: &Trace<B>,
+    at: u32,
+    once: u32,
+) -> Result<(), AllocError> {
+    match last_before(trace, at, Deed::Begins(once)) {
+        Some(_) => {
+            put(out, &[" hasn't ended"])?;
+            put_since(out, trace, at, Deed::Begins(once), " began it")?;
+            put_later(out, trace, at, Deed::Ends(once), " ends it")
+        }
+        None => {
+            put(out, &[" hasn't begun: no event before this one begins it"])?;
+            put_later(out, trace, at, Deed::Begins(once), " does")
+        }
     }
 }
 

@@ -44,7 +44,11 @@ pub(crate) fn put_bad_byte<A: Allocator>(
     let what = match byte {
         0 => ", a zero byte",
         9 => ", a tab",
-        13 => ", a carriage return, as Windows ends lines: tr -d '\\r' < FILE | gorace explain",
+        13 => if column + 1 == line.len() {
+            ", a carriage return, as Windows ends lines: tr -d '\\r' < FILE | gorace explain"
+        } else {
+            ", a carriage return within the line"
+        },
         _ => if byte < 128 {
             ""
         } else {

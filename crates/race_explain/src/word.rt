@@ -1,4 +1,6 @@
 //! Which word of a line is at fault.
+ghost use Rattle.std.specs.Prelude.{◌≡◌, true, slice_get, option_map, Some};
+ghost use Rattle.race_text.specs.Words.{is_bad_byte, has_bad_byte};
 
 use crate::field::fields_of;
 use race_records::Decls;
@@ -31,7 +33,7 @@ pub(crate) fn faulty_word<'a, A: Allocator>(
             return Some(FaultyWord {
                 field: *field,
                 word,
-                column: line.len().saturating_sub(bytes.len()),
+                column: column_in(line, bytes),
             });
         }
         left = others;
@@ -39,23 +41,35 @@ pub(crate) fn faulty_word<'a, A: Allocator>(
     None
 }
 
-/// Where the first word too many begins, or the end of the line where there are too few.
+/// Where the first empty word or else the first word too many begins, or the end of the line where there are too few.
 pub(crate) fn count_column(word: Word, line: &[u8]) -> usize {
     let mut left = cut_at(line, b' ').1;
+    let mut empty = None;
     for _ in 0..fields_of(word).len() {
         let Some(bytes) = left else {
             return line.len();
         };
+        if empty.is_none() && bytes.starts_with(b" ") {
+            empty = Some(column_in(line, bytes));
+        }
         left = cut_at(bytes, b' ').1;
     }
-    match left {
-        None => line.len(),
-        Some(bytes) => line.len().saturating_sub(bytes.len()),
+    match (left, empty) {
+        (None, _) => line.len(),
+        (Some(_), Some(column)) => column,
+        (Some(bytes), None) => column_in(line, bytes),
     }
 }
 
+// Where the last bytes of the line begin.
+fn column_in(line: &[u8], last: &[u8]) -> usize {
+    line.len().saturating_sub(last.len())
+}
+
 /// Where the first byte is that no line may have.
-pub(crate) fn bad_column(line: &[u8]) -> usize {
+pub(crate) fn bad_column(line: &[u8]) -> usize
+    ensures { has_bad_byte line.now ≡ true → option_map is_bad_byte (slice_get line.now result) ≡ Some true }
+{
     for column in 0..line.len() {
         if !(b' ' <= line[column] && line[column] <= b'~') {
             return column;

@@ -1,0 +1,147 @@
+//! Which locks are held before an event, and by whom.
+
+use crate::names::{goroutine, name_of};
+use crate::put::{put, put_at, put_number_in};
+use race_records::{Event, Named, Op, Trace};
+use std::alloc::{AllocError, Allocator};
+
+/// How many holders of a lock are listed at most.
+const LISTED: usize = 8;
+
+/// A lock that a goroutine locked and nobody has unlocked.
+#[derive(Clone, Copy)]
+pub(crate) struct Holding {
+    pub(crate) lock: u32,
+    pub(crate) reading: bool,
+    pub(crate) who: u32,
+    pub(crate) place: u32,
+    at: u32,
+}
+
+// What the event at the index locks.
+fn locked_by(event: &Event, at: u32) -> Option<Holding> {
+    let (lock, reading) = match event.op {
+        Op::Lock(lock) => (lock, false),
+        Op::TryLock(lock) => (lock, false),
+        Op::RLock(lock) => (lock, true),
+        Op::TryRLock(lock) => (lock, true),
+        _ => return None,
+    };
+    Some(Holding {
+        lock,
+        reading,
+        who: event.who,
+        place: event.place,
+        at,
+    })
+}
+
+// Which lock an event unlocks, and whether from reading.
+fn unlocked_by(event: &Event) -> Option<(u32, bool)> {
+    match event.op {
+        Op::Unlock(lock) => Some((lock, false)),
+        Op::RUnlock(lock) => Some((lock, true)),
+        _ => None,
+    }
+}
+
+// Which holding ends where the goroutine unlocks: its own, and else the last of another.
+fn ended(held: &[Holding], who: u32, lock: u32, reading: bool) -> Option<usize> {
+    let mut found = None;
+    let mut is_own = false;
+    for index in 0..held.len() {
+        let holding = held[index];
+        if holding.lock == lock && holding.reading == reading {
+            if holding.who == who || !is_own {
+                found = Some(index);
+            }
+            is_own = is_own || holding.who == who;
+        }
+    }
+    found
+}
+
+/// What is held before the event at the index.
+pub(crate) fn held_before<A: Allocator + Copy, B: Allocator>(
+    alloc: A,
+    trace: &Trace<B>,
+    before: u32,
+) -> Result<Vec<Holding, A>, AllocError> {
+    let mut held: Vec<Holding, A> = Vec::new(alloc);
+    let mut at = 0;
+    for event in trace.events() {
+        if at >= before {
+            return Ok(held);
+        }
+        if let Some(holding) = locked_by(event, at) {
+            held.push(holding)?;
+        }
+        if let Some((lock, reading)) = unlocked_by(event) {
+            end(&mut held, event.who, lock, reading);
+        }
+        at = at.saturating_add(1);
+    }
+    Ok(held)
+}
+
+fn end<A: Allocator>(held: &mut Vec<Holding, A>, who: u32, lock: u32, reading: bool) {
+    if let Some(index) = ended(held.as_slice(), who, lock, reading) {
+        if index < held.len() {
+            held.remove(index);
+        }
+    }
+}
+
+/// Puts who holds the lock before the event at the index, and since which event.
+pub(crate) fn put_holders<A: Allocator + Copy, B: Allocator>(
+    out: &mut Vec<u8, A>,
+    trace: &Trace<B>,
+    at: u32,
+    who: u32,
+    lock: u32,
+) -> Result<(), AllocError> {
+    let held = held_before(*out.allocator(), trace, at)?;
+    put(out, &[name_of(trace, Named::Lock(lock)), " is held"])?;
+    let mut count = 0usize;
+    let mut is_own = false;
+    for holding in held.as_slice() {
+        if holding.lock == lock {
+            if count < LISTED {
+                put_holder(out, trace, *holding, who, count == 0)?;
+            }
+            is_own = is_own || holding.who == who;
+            count = count.saturating_add(1);
+        }
+    }
+    if count > LISTED {
+        put_number_in(out, ", and ", (count - LISTED) as u64, " more")?;
+    }
+    put(
+        out,
+        &[if is_own {
+            ": Go's locks aren't reentrant"
+        } else {
+            ""
+        }],
+    )
+}
+
+// Who holds it, since when, and whether it is this goroutine itself.
+fn put_holder<A: Allocator, B: Allocator>(
+    out: &mut Vec<u8, A>,
+    trace: &Trace<B>,
+    holding: Holding,
+    who: u32,
+    is_first: bool,
+) -> Result<(), AllocError> {
+    let how = if !is_first {
+        ", and by "
+    } else if holding.reading {
+        " for reading by "
+    } else {
+        " by "
+    };
+    let itself = if holding.who == who { " itself" } else { "" };
+    put(out, &[how, goroutine(trace, holding.who), itself])?;
+    put_at(out, trace, " since ", holding.at, "")
+}

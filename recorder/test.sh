@@ -29,6 +29,6 @@ if [ -n "$unformatted" ]; then
     exit 1
 fi
 go vet ./...
-go test ./cmd/gorec ./gorec ./internal/instrument ./internal/load ./internal/rewrite ./internal/sites ./internal/trace
-go test -parallel 2 -timeout 20m ./internal/endtoend -judge "$judge"
+go test -timeout 60m ./cmd/gorec ./gorec ./internal/instrument ./internal/load ./internal/rewrite ./internal/sites ./internal/trace
+go test -parallel 2 -timeout 60m ./internal/endtoend -judge "$judge"
 echo 'recorder: ok'

@@ -23,6 +23,7 @@ func (g *G) sendOut(s *Site) {
 	g.lastOut = g.release(s)
 	sentOut = append(sentOut, sending{g, g.lastOut})
 	atomic.StoreUint32(&newest, g.lastOut)
+	atomic.AddUint32(&news, 1)
 }
 
 // takeIn has the lock: g has read, or was answered. Besides what was written, what the

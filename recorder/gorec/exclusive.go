@@ -22,6 +22,9 @@ type access struct {
 	stack uint32
 }
 
+// is reports whether the two are alike. Go's == calls a function for three numbers.
+func (a access) is(b access) bool { return a.at == b.at && a.site == b.site && a.stack == b.stack }
+
 // variable is what is recorded of one.
 type variable struct {
 	id     uint32 // 0 as long as one goroutine alone uses it
@@ -39,16 +42,26 @@ func (v *variable) isMet() bool { return v.id != 0 || v.owner != 0 }
 
 // put writes what the user did to an object, behind all steps so far.
 func (o user) put(op wire.Op, object uint32, bytes uint8) {
-	now, run := atomic.LoadUint32(&steps), o.runAt()
-	if o.goOn(run, op, object, bytes, now) {
+	if !o.goesOn(op, object, bytes) {
+		o.putRecord(op, object, bytes)
+	}
+}
+
+// putRecord is put with a record of its own, with which a run may begin.
+func (o user) putRecord(op wire.Op, object uint32, bytes uint8) {
+	w := &o.g.window
+	w.countRuns()
+	r := w.take()
+	if r == nil {
 		return
 	}
-	w := &o.g.window
-	if r := w.take(); r != nil {
-		r.Value, r.Object, r.Site, r.OtherSite = uint64(now), object, o.s.ID, o.stack
-		r.Goroutine, r.Count = o.g.id, partly(bytes)
-		r.Op = op
-		run.record, run.part, run.next = w.next-1, w.part, object+1
+	r.Value, r.Object, r.Site, r.OtherSite = uint64(atomic.LoadUint32(&steps)), object, o.s.ID, o.stack
+	r.Goroutine, r.Count = o.g.id, partly(bytes)
+	r.Op = op
+	run := o.runAt()
+	run.record, run.part, run.next = w.next-1, w.part, object+1
+	if op == wire.Unseen {
+		run.next = 0
 	}
 }
 
@@ -134,7 +147,7 @@ func (v *variable) keep(op wire.Op, a access, bytes uint8) {
 	if op == wire.Write {
 		last, of = &v.write, &v.writes
 	}
-	if *last == a {
+	if last.is(a) {
 		bytes |= *of
 	}
 	*last, *of = a, bytes
@@ -146,7 +159,7 @@ func (v *variable) fits(o user, op wire.Op, bytes uint8) bool {
 	if op == wire.Write {
 		last, of = v.write, v.writes
 	}
-	return last.at == 0 || of&^bytes == 0 || last == access{o.g.behind + 1, o.s.ID, o.stack}
+	return last.at == 0 || of&^bytes == 0 || last.is(access{o.g.behind + 1, o.s.ID, o.stack})
 }
 
 // repeats has the lock. It reports whether a write of these bytes would repeat the goroutine's

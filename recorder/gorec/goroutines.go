@@ -14,9 +14,9 @@ import (
 // labels, for a profiler that reads them.
 type G struct {
 	tag
-	g        uintptr
+	g        uintptr // the runtime's, 0 once it has ended
 	id       uint32
-	over     bool
+	settled  uint32 // the news that it has taken in
 	random   uint32
 	epoch    uint32 // grows with each operation that may order something
 	behind   uint32 // the steps up to its last such operation
@@ -65,6 +65,9 @@ var (
 	mainGoroutine = &G{wake: make(chan struct{}, 2)}
 	goingOn       = map[*G]struct{}{mainGoroutine: {}} // the goroutines that haven't ended
 	nowhere       = &Site{}
+
+	// news grows with each part, and with what a goroutine writes to a file or a connection.
+	news uint32
 )
 
 // current is the goroutine that runs; s is where it is met.
@@ -73,20 +76,33 @@ func current(s *Site) *G {
 	if t := (*tag)(getLabel()); t != nil {
 		g = t.of
 	}
-	if g != nil && g.g == getg() && !g.over {
-		if seed != 0 {
-			g.yield()
-		}
-		if g.foreign || g.reading {
-			g.meets(s)
-		}
-		if p := atomic.LoadUint32(&part); g.tables != p {
-			g.tables, g.reads, g.writes = p, repeats{}, repeats{}
-		}
-		return g
+	if g == nil || g.g != getg() {
+		return adopt(g, s)
 	}
-	return adopt(g, s)
+	if seed != 0 {
+		g.yield()
+	}
+	if g.settled != atomic.LoadUint32(&news) {
+		g.settle(s)
+	}
+	return g
 }
+
+// settle has g take in the news.
+func (g *G) settle(s *Site) {
+	n := atomic.LoadUint32(&news)
+	if g.foreign || g.reading {
+		g.meets(s)
+	}
+	if p := atomic.LoadUint32(&part); g.tables != p {
+		g.tables, g.reads, g.writes = p, repeats{}, repeats{}
+	}
+	g.settled = n
+}
+
+// isReading notes that g is about to read a file or a connection: when it is met the next time it
+// has done so.
+func (g *G) isReading() { g.reading, g.settled = true, atomic.LoadUint32(&news)-1 }
 
 // meets takes in what others sent: they may have asked g anew, or g has read.
 func (g *G) meets(s *Site) {
@@ -151,7 +167,7 @@ func (t *tag) ended() {
 	if t.of.part == part {
 		t.of.note(wire.Exit, 0, nowhere)
 	}
-	t.of.over = true
+	t.of.g = 0
 	t.of.reads, t.of.writes = repeats{}, repeats{}
 }
 
@@ -159,7 +175,7 @@ func (t *tag) ended() {
 func newGoroutine() *G {
 	goroutines++
 	live = !sealed
-	g := &G{id: goroutines, part: part, tables: part, random: seed*2654435761 + goroutines*40503 | 1, wake: make(chan struct{}, 2)}
+	g := &G{id: goroutines, part: part, settled: atomic.LoadUint32(&news), tables: part, random: seed*2654435761 + goroutines*40503 | 1, wake: make(chan struct{}, 2)}
 	g.of = g
 	goingOn[g] = struct{}{}
 	return g
@@ -200,7 +216,7 @@ func (g *G) run(s *Site, f func()) {
 func (g *G) exit(s *Site) {
 	begin()
 	g.note(wire.Exit, 0, s)
-	g.over = true
+	g.g = 0
 	delete(goingOn, g)
 	mu.Unlock()
 	g.reads, g.writes, g.runs = repeats{}, repeats{}, nil

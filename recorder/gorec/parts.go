@@ -70,6 +70,7 @@ func nextPart() {
 	syscall.Madvise(old, syscall.MADV_DONTNEED)
 	atomic.StoreUint32(&steps, 0)
 	atomic.AddUint32(&part, 1)
+	atomic.AddUint32(&news, 1)
 	atomic.AddUint32(&era, 1)
 	forget()
 	atomic.StoreUint32(&full, 0)

@@ -59,7 +59,7 @@ const (
 // one another.
 func (t *repeats) at(p unsafe.Pointer) *repeat {
 	h := uintptr(p) >> 3
-	return &t.entries[(h^h>>15)&uintptr(len(t.entries)-1)]
+	return (*repeat)(unsafe.Add(unsafe.Pointer(&t.entries[0]), (h^h>>15)&uintptr(len(t.entries)-1)*unsafe.Sizeof(repeat{})))
 }
 
 // has reports whether all that is accessed was; the table isn't empty.
@@ -112,16 +112,16 @@ func (t *repeats) drop(p unsafe.Pointer) {
 // read now too. Otherwise this one is going to have it.
 func (g *G) hasRead(p unsafe.Pointer, size uintptr) bool {
 	stamp := g.epoch + atomic.LoadUint32(&era)
-	return g.reads.hasWhole(p, size, stamp) || g.reads.note(repeatOf(p, size, stamp))
-}
-
-// hasWhole reports at once what note reports, for most accesses of more than one byte; or false.
-func (t *repeats) hasWhole(p unsafe.Pointer, size uintptr, stamp uint32) bool {
-	if size == 1 || len(t.entries) == 0 {
-		return false
+	if size > 1 && size < 1<<16 && len(g.reads.entries) > 0 { // at once what note would do
+		switch e := g.reads.at(p); {
+		case e.stamp != stamp:
+			*e = repeat{p: p, stamp: stamp, size: uint16(size)}
+			return false
+		case e.p == p && uintptr(e.size) >= size:
+			return true
+		}
 	}
-	e := t.at(p)
-	return e.p == p && e.stamp == stamp && uintptr(e.size) >= size
+	return g.reads.note(repeatOf(p, size, stamp))
 }
 
 // hasLeave reports whether a write of what begins at p needs no record and no lock.

@@ -65,7 +65,7 @@ func newTurns(t *testing.T, n int) turns {
 			close(c)
 			for over := false; !over; { // so that it writes nothing into another test's log
 				mu.Lock()
-				over = g.over
+				over = g.g == 0
 				mu.Unlock()
 			}
 		})

@@ -23,46 +23,47 @@ var mostOfRun uint32 = 1 << 10
 type run struct {
 	record uint32 // its number in the log
 	part   uint32 // of which it is
-	next   uint32 // the variable that would come now
+	next   uint32 // the variable that would come now, 0 for none
 
 	free, end uint32 // numbers that are set aside
 	taken     uint32 // so many were at once
 }
 
-// goOn reports whether the run of a place now has this access too.
-func (o user) goOn(run *run, op wire.Op, object uint32, bytes uint8, now uint32) bool {
-	if run.next != object || run.part != part || sealed || op == wire.Unseen {
+// goesOn reports whether the run of a place now has this access too.
+func (o user) goesOn(op wire.Op, object uint32, bytes uint8) bool {
+	if o.g.runs == nil {
+		return false
+	}
+	run := &o.g.runs[o.s.ID%runsKept]
+	if run.next != object || run.part != part || sealed {
 		return false
 	}
 	r := &records[run.record]
-	if r.Value != uint64(now) || r.Site != o.s.ID || r.OtherSite != o.stack || r.Op != op ||
-		r.Count != partly(bytes) || r.Other >= mostOfRun {
+	if r.Op != op || r.Count != partly(bytes) || r.Site != o.s.ID || r.OtherSite != o.stack ||
+		r.Value != uint64(atomic.LoadUint32(&steps)) || r.Other >= mostOfRun {
 		return false
 	}
 	r.Other++
 	run.next++
-	o.g.window.goneOn()
+	o.g.window.ranOn++
 	return true
 }
-
-// unsaid is how many accesses of runs a window doesn't tell yet.
-const unsaid = 1 << 8
 
 // ranOn is how many accesses of this log stand in runs, behind the first of each. They take no
 // room in it, but as much as others where it is read.
 var ranOn uint32
 
-// goneOn counts an access of a run.
-func (w *window) goneOn() {
-	if w.ranOn++; w.ranOn == unsaid {
-		w.ranOn = 0
-		sayRanOn()
-	}
-}
+// unsaid is how many of them a window may have that ranOn hasn't, where one more record is written.
+const unsaid = 1 << 8
 
-// sayRanOn counts the accesses of runs that a window told.
-func sayRanOn() {
-	switch count := atomic.AddUint32(&ranOn, unsaid) + atomic.LoadUint32(&header.Records); {
+// countRuns counts them.
+func (w *window) countRuns() {
+	if w.ranOn < unsaid {
+		return
+	}
+	count := atomic.AddUint32(&ranOn, w.ranOn) + atomic.LoadUint32(&header.Records)
+	w.ranOn = 0
+	switch {
 	case isFull(count):
 		atomic.StoreUint32(&full, 1)
 	case partRecords == 0 && int(count) > len(records)-reserve():

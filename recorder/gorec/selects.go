@@ -148,12 +148,20 @@ func communicate(s *Site, hasDefault bool, cases []communication) int {
 	g := current(s)
 	begin()
 	poll := false
+	var over <-chan struct{}
 	for i, c := range cases {
 		o := c.state()
 		o.index = i
 		o.channel = channelAt(c.pointer(), g, s)
-		if o.channel != nil && (o.channel.foreign || o.channel.done != nil) {
+		switch {
+		case o.channel == nil:
+		case o.channel.foreign:
 			poll = true
+		case o.channel.done != nil:
+			r, ok := c.(*Taking[struct{}])
+			if poll = poll || !ok || over != nil; ok {
+				over = r.c
+			}
 		}
 	}
 	if len(cases) == 1 && !hasDefault && poll && cases[0].state().channel.foreign {
@@ -175,6 +183,7 @@ func communicate(s *Site, hasDefault bool, cases []communication) int {
 		return i
 	}
 	w := g.wait(s, cases, poll)
+	w.over = over
 	mu.Unlock()
 	return w.sleep(poll)
 }

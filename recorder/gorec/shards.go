@@ -29,14 +29,18 @@ const (
 // collector, which would let the heap grow by twice as much.
 type shard struct {
 	sync.Mutex
+	table
+	met   int
+	limit int // so many are known before some are forgotten
+	fresh int // that were met at this age
+	last  int // where the last one was found
+	age   uint8
+	_     [31]byte // no other one's lock is in the same line of a processor's cache
+}
+
+type table struct {
 	keys    []key
 	entries []location
-	met     int
-	limit   int // so many are known before some are forgotten
-	fresh   int // that were met at this age
-	last    int // where the last one was found
-	age     uint8
-	_       [31]byte // no other one's lock is in the same line of a processor's cache
 }
 
 type key struct {
@@ -181,21 +185,53 @@ func hash(p unsafe.Pointer) uintptr {
 
 // resize has the lock. It makes a table of so many entries, without those that aren't kept.
 func (sh *shard) resize(size int) {
-	keys, entries := sh.keys, sh.entries
-	sh.keys, sh.entries = make([]key, size), makeEntries(size)
-	for i := range keys {
-		if keys[i].p != nil {
-			at := sh.find(keys[i].p, entries[i].kind)
-			sh.keys[at], sh.entries[at] = keys[i], entries[i]
+	old := sh.table
+	sh.table = newTable(size)
+	for i := range old.keys {
+		if old.keys[i].p != nil {
+			at := sh.find(old.keys[i].p, old.entries[i].kind)
+			sh.keys[at], sh.entries[at] = old.keys[i], old.entries[i]
 		}
 	}
-	freeEntries(entries)
+	old.free()
 }
 
 // clear has the lock.
 func (sh *shard) clear() {
-	freeEntries(sh.entries)
-	sh.keys, sh.entries, sh.met = nil, nil, 0
+	sh.table.free()
+	sh.table, sh.met = table{}, 0
+}
+
+// spare is a table for the next one of its size, since forgetting makes another one of the same.
+var (
+	spare     table
+	spareLock sync.Mutex
+)
+
+func newTable(size int) table {
+	spareLock.Lock()
+	defer spareLock.Unlock()
+	if t := spare; len(t.keys) == size {
+		spare = table{}
+		return t
+	}
+	return table{make([]key, size), makeEntries(size)}
+}
+
+// free keeps the table where it is larger than the spare one.
+func (t table) free() {
+	spareLock.Lock()
+	defer spareLock.Unlock()
+	if len(t.keys) > len(spare.keys) {
+		t, spare = spare, t
+		for i := range spare.keys {
+			spare.keys[i] = key{}
+		}
+		for i := range spare.entries {
+			spare.entries[i] = location{}
+		}
+	}
+	freeEntries(t.entries)
 }
 
 // makeEntries is memory of the system's, in which all is zero. Where there is none it is Go's.

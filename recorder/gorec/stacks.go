@@ -45,6 +45,11 @@ func stackNumber() uint32 {
 	if stackFile == nil {
 		return 0
 	}
+	return numberOfCalls()
+}
+
+// numberOfCalls is stackNumber where stacks are wanted.
+func numberOfCalls() uint32 {
 	key := hashReturns()
 	recent := &recentStacks[key>>54]
 	if r := atomic.LoadUint64(recent); r != 0 && r>>numberBits == uint64(key)<<10>>(10+numberBits) {

@@ -68,7 +68,7 @@ func StreamOut[T any](w T, s *Site) T {
 func StreamIn[T any](r T, s *Site) T {
 	Stream(r, s)
 	if !off && leadsOut(reflect.ValueOf(r)) {
-		current(s).reading = true
+		current(s).isReading()
 	}
 	return r
 }
@@ -94,6 +94,5 @@ func stillReading() (again func()) {
 	if t == nil || !t.of.reading {
 		return func() {}
 	}
-	g := t.of
-	return func() { g.reading = true }
+	return t.of.isReading
 }

@@ -66,8 +66,9 @@ type waiter struct {
 	cases  []communication
 	which  int // the case that was done
 	done   bool
-	panics bool // it sends on a channel that was closed
-	polls  bool // it tries by itself, since code without the recorder may make a case possible
+	panics bool            // it sends on a channel that was closed
+	polls  bool            // it tries by itself, since code without the recorder may make a case possible
+	over   <-chan struct{} // a context's, which code without the recorder may close
 }
 
 // wait has the lock: g waits for one of its cases.
@@ -135,8 +136,15 @@ func (ch *channel) lend() {
 // sleep returns once a case was done: by others, or by trying again from time to time.
 func (w *waiter) sleep(polls bool) int {
 	if !polls {
-		<-w.g.wake
-		polls = w.polls // a channel was lent
+		select {
+		case <-w.g.wake:
+			polls = w.polls // a channel was lent
+		case <-w.over:
+			if w.pollNow() {
+				<-w.g.wake // what lend sent
+			}
+			polls = true
+		}
 	}
 	if polls {
 		if i, did := w.poll(); did {
@@ -149,16 +157,23 @@ func (w *waiter) sleep(polls bool) int {
 	return w.which
 }
 
+// pollNow has w try by itself from now on. It reports whether a channel was lent before, which woke
+// it.
+func (w *waiter) pollNow() (lent bool) {
+	mu.Lock()
+	defer mu.Unlock()
+	lent, w.polls = w.polls, true
+	return lent
+}
+
 // poll tries the cases until one was done; did says that this goroutine did it.
 func (w *waiter) poll() (i int, did bool) {
-	for pause := 5 * time.Microsecond; ; pause += pause / 4 {
-		if pause > time.Millisecond {
-			pause = time.Millisecond
-		}
-		t := time.NewTimer(pause)
+	pause := 5 * time.Microsecond
+	t := time.NewTimer(pause)
+	defer t.Stop()
+	for {
 		select {
 		case <-w.g.wake:
-			t.Stop()
 			return none, false
 		case <-t.C:
 		}
@@ -173,6 +188,10 @@ func (w *waiter) poll() (i int, did bool) {
 			<-w.g.wake
 			return none, false
 		}
+		if pause += pause / 4; pause > time.Millisecond {
+			pause = time.Millisecond
+		}
+		t.Reset(pause)
 	}
 }
 

@@ -1,6 +1,10 @@
 package gorec
 
-import "testing"
+import (
+	"context"
+	"testing"
+	"time"
+)
 
 // waiting has three goroutines that wait on one channel, the second on another one too.
 func waiting(one, other *channel) []*G {
@@ -41,4 +45,20 @@ func TestQueues(t *testing.T) {
 	if one.takers.first != nil || one.takers.last != nil {
 		t.Error("the empty queue isn't")
 	}
+}
+
+// Who waits for a channel and for the end of a context goes on when the context ends.
+func TestContextEnds(t *testing.T) {
+	record(t)
+	newTurns(t, 1).do(0, func() {
+		ctx, cancel := WithTimeout(context.Background(), time.Millisecond, nowhere)
+		defer cancel()
+		end, other := CaseReceive(ctx.Done()), CaseReceive((<-chan int)(Made(make(chan int), nowhere)))
+		if i := Select(nowhere, false, other, end); i != 1 || end.OK {
+			t.Errorf("case %d, %v", i, end.OK)
+		}
+		if current(nowhere).waiter.over == nil {
+			t.Error("it doesn't wait for the context")
+		}
+	})
 }

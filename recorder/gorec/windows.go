@@ -26,7 +26,7 @@ type window struct {
 	next, end uint32
 	size      uint32
 	part      uint32 // of which it is
-	ranOn     uint32 // accesses of runs that aren't counted yet
+	ranOn     uint32 // accesses of runs that ranOn hasn't
 }
 
 var (

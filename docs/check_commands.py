@@ -10,7 +10,8 @@ is run, and links, paths, promises, quotations and rows are looked at alone.
   standard output and standard error. It runs in a copy of the repository's examples and recorder.
   Blocks that record Go programs need Go, and run with --recorder alone.
 - A table with the columns File, Report and Status has a row for each file of its page's folder: a trace
-  is checked, a program run and judged with --picks 0. No file may be without a row.
+  is checked, a program run and judged with --picks 0. No file may be without a row. A column All runs has the counts of
+  `gorace explore`, but those that are 0, of the program in programs/ that has the file's name.
 - A link to a file of the repository leads to one, and to a heading of it.
 - A path that a table or docs/PROVED.md names, as race_text/src/form or race_model/specs/Order, is there, and so
   is one of the column Files in the crate of the column Crate; and each function and clause that a table of
@@ -39,9 +40,11 @@ PLAINER = (
     (r"(?:want|lack) of memory", "out of memory"),
     (r"memory aside", "unless out of memory"),
     (r"st(?:ands?|ood|anding) for", "means, is, represents"),
-    (r"(?:is|are|was|were|be|been|being) told", "gets the answer, is reported"),
-    (r"(?:a|the|each|every) fronts? of|fronts of", "prefix of"),
-    (r"(?:the|a|its|each|own|whose) begin|(?:the|its|their) begins|begins of", "start of"),
+    (r"told", "gets the answer, is reported"),
+    (r"(?:stands?|stood|standing) (?:in|at|on|behind|before|after|first|last|there|here)", "is, comes"),
+    (r"behind(?! an interface)", "after"),
+    (r"(?:a|the|each|every) fronts? of|fronts of|in front of", "prefix of, before"),
+    (r"(?:the|a|its|each|own|whose|main's) begin|(?:the|its|their) begins|begins of", "start of"),
     (r"some (?:ten|twenty|\d[\d,.]*)", "about"),
     (r"(?:this|the|one|our) house(?:'s)?", "this project"),
     (r"hangs? together", "is consistent"),
@@ -159,6 +162,22 @@ def run_file(file, picks, folder):
     return ran.stdout.splitlines(), str(ran.returncode)
 
 
+def counts_of_all_runs(program, folder):
+    with program.open() as text:
+        ran = subprocess.run([folder / "gorace", "explore"], stdin=text, text=True, timeout=SECONDS, stdout=subprocess.PIPE)
+    return re.sub(r", (?!clean)\w+: 0\b", "", ran.stdout.splitlines()[-1])
+
+
+def check_all_runs(page, file, cell, folder, failures):
+    """Looks at the counts in a cell, and returns the program, if the cell has any."""
+    program = page.parent / "programs" / (file.stem + ".goprogram")
+    if not re.fullmatch("`[^`]*`", cell):
+        return []
+    if folder:
+        failures.compare(f"{name(page)}: {program.name}", [cell.strip("`")], [counts_of_all_runs(program, folder)])
+    return [program]
+
+
 def check_tables(page, folder, failures):
     count, named, file = 0, set(), None
     for table in tables_of(without_blocks(page.read_text())):
@@ -173,6 +192,7 @@ def check_tables(page, folder, failures):
                     failures.add(name(page), f"no file {row['File']}")
                     continue
                 named.add(file)
+                named.update(check_all_runs(page, file, row.get("All runs", ""), folder, failures))
             if folder is None:
                 continue
             lines, status = run_file(file, picks.group(1) if picks else "0", folder)

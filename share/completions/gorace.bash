@@ -7,7 +7,7 @@ _gorace() {
         # After < and > comes a file.
         *[\<\>]) compopt -o default 2>/dev/null; return ;;
         # After these comes a number, or several.
-        --block | --limit | --most | --picks | --seed | --shards | --workers | =) return ;;
+        --block | --limit | --most | --picks | --runs | --seed | --shards | --workers | =) return ;;
     esac
     for ((at = 1; at < COMP_CWORD; at++)); do
         if [[ ${COMP_WORDS[at]} != -* ]]; then
@@ -16,13 +16,14 @@ _gorace() {
         fi
     done
     case $command in
-        '') [[ $word == -* ]] && offers='-h --help -V --version' || offers='check explain edges run race witness draw predict help' ;;
-        help) offers='check explain edges run race witness draw predict help' ;;
+        '') [[ $word == -* ]] && offers='-h --help -V --version' || offers='check explain edges run race explore witness draw predict help' ;;
+        help) offers='check explain edges run race explore witness draw predict help' ;;
         check) offers='--shards --block --plain -h --help' ;;
         explain) offers='-h --help' ;;
         edges) offers='-h --help' ;;
         run) offers='--workers --seed --limit --picks -h --help' ;;
         race) offers='--workers --seed --limit --picks --shards --block --plain -h --help' ;;
+        explore) offers='--runs --limit -h --help' ;;
         witness) offers='-h --help' ;;
         draw) offers='--svg -h --help' ;;
         predict) offers='--turned --most -h --help' ;;

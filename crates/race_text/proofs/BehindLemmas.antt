@@ -2,9 +2,14 @@
 use Rattle.std.proofs.Common.{◌≡◌, ℕ, zero, suc, ◌+◌, ◌*◌, ◌<◌, ◌≤◌, Bool, true, false, List, ◌∷◌, [], ◌++◌, length}
 use Rattle.std.proofs.Common.{Result, Ok, Err, MatchResult, refl, sym, ap, ◌∙◌, arith, true≢false, append_assoc}
 use Rattle.std.proofs.lemmas.List.{length-append}
+use Rattle.std.specs.Prelude.{slice_get, OnOk}
+use Rattle.std.proofs.Common.{Option, Some, None, if◌then◌else◌, subst}
+use Rattle.std.proofs.lemmas.Option.{slice_get_within}
+use Rattle.race_records.proofs.ListLemmas.{slice_get-push_within}
+use Rattle.race_records.specs.Declarations.{DeclsState, is_known, with_place}
 use Rattle.race_records.specs.{declared.event.Event.Event, Events.TraceState}
 use Rattle.race_text.specs.{declared.cause.TextCause.TextCause, Reading.Occurrence, Taking.{IsRead, IsReadBehind}}
-use Rattle.race_text.specs.{Taking.{behind, event_of, AppendsEvent, TellsOfRoom, TakesOrTells}, Text.lines}
+use Rattle.race_text.specs.{Taking.{behind, event_of, AppendsEvent, KeepsPlaces, TellsOfRoom, TakesOrTells, second_places}, Text.lines}
 use Rattle.race_text.proofs.{EventLines.IsEventLine, TraceLemmas.event_answered}
 
 -- how many events there are with those before
@@ -54,3 +59,22 @@ few_behind before t read =
     let limited = read.is_read.has_text.is_trace.limited in
     let places = read.is_read.few_places in
     record { limited = omega (arith, all, limited); places = omega (arith, all, places) }
+
+-- places keep their numbers as an event is appended
+keeps_place : (decls : DeclsState) (word : List ℕ) → KeepsPlaces decls.places (with_place decls word).places
+keeps_place decls word n place at = by (is_known decls.places word)
+  where
+    by : (known : Bool) → slice_get (if known then decls.places else decls.places ++ word ∷ []) n ≡ Some place
+    by true = at
+    by false = slice_get-push_within decls.places word n (slice_get_within decls.places n place at) ∙ at
+
+keeps_second : (decls : DeclsState) (second : Option (List ℕ)) → KeepsPlaces decls.places (second_places decls second)
+keeps_second decls None n place at = at
+keeps_second decls (Some word) n place at = keeps_place decls word n place at
+
+pub keeps_places : (before : ℕ) (old new : TraceState) (o : Occurrence) (r : Result (Unit {0}) TextCause)
+    → MatchResult r (λ _. AppendsEvent before old new o) (TellsOfRoom before old) → OnOk r (KeepsPlaces old.decls.places new.decls.places)
+keeps_places before old new o (Err told) tells = tt
+keeps_places before old new o (Ok u) added = λ n place at.
+    subst (λ (d : DeclsState). slice_get d.places n ≡ Some place) (sym added.decls)
+    (keeps_second (with_place old.decls o.place) o.place2 n place (keeps_place old.decls o.place n place at))

@@ -35,9 +35,11 @@ pub mod ReaderLemmas
 pub mod ParseLemmas
 pub mod FedLemmas
 pub mod LinesTaken
+pub mod AheadLemmas
 pub mod LineCount
 pub mod StreamLemmas
 mod StreamKnown
+pub mod AheadTaken
 pub mod MarkLemmas
 pub mod CommonLemmas
 pub mod TextLaws

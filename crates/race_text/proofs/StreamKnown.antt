@@ -14,12 +14,17 @@ module _ {A : Type 0} (old : EventStream A) where
   some_stream (k, some) = record { past = k.past; lines = some.lines; stands = some.stands.stream }
 
   module _ (new : EventStream A) (declares : DeclaresNothing old new) where
-    declared_still : (declared : Option (List Declaration)) → IfSome declared (HasDeclared old) → IfSome declared (HasDeclared new)
-    declared_still None has = tt
-    declared_still (Some ds) has = (declares.stays has.0, declares.same has.0 ∙ has.1)
+    declared_still : (places : List (List ℕ)) (declared : Option (List Declaration)) → IfSome declared (HasDeclared places old)
+        → IfSome declared (HasDeclared places new)
+    declared_still places None has = tt
+    declared_still places (Some ds) has = record {
+      event = declares.stays has.event;
+      same = declares.same has.event ∙ has.same;
+      kept = λ n place at. declares.places has.event n place (has.kept n place at);
+    }
 
     goes_on : (k : Known) (lines more : List (List ℕ)) → StandsFor k old lines → StandsWith new k.past more → StandsFor k new more
-    goes_on k lines more S stands = record { stream = stands; declared = declared_still k.declared S.declared }
+    goes_on k lines more S stands = record { stream = stands; declared = declared_still k.places k.declared S.declared }
 
     takes : (k : Known) (line : List ℕ) → Takes trace_causes (StandsWith old k.past) line (StandsWith new k.past)
         → Takes trace_causes (StandsFor k old) line (StandsFor k new)

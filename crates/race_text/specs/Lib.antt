@@ -14,6 +14,7 @@ pub mod Common
 pub mod Grammar
 pub mod Reader
 pub mod Stream
+pub mod Ahead
 pub mod Fed
 pub mod Laws
 pub mod Examples

@@ -1,5 +1,5 @@
 -- A line that is taken into a trace.
-use Rattle.std.specs.Prelude.{◌≡◌, ℕ, ◌+◌, ◌*◌, ◌<◌, ◌≤◌, List, [], ◌∷◌, ◌++◌, length, true, Option, Some, None}
+use Rattle.std.specs.Prelude.{◌≡◌, ℕ, ◌+◌, ◌*◌, ◌<◌, ◌≤◌, List, [], ◌∷◌, ◌++◌, length, slice_get, true, Option, Some, None}
 use Rattle.std.specs.{Prelude.{is_some, IfSome, Result, Ok, Err}, Borrow.Bor, Option.option_map}
 use Rattle.race_records.specs.declared.{event.Event.Event, kind.Kind.Kind, trace.TheConstants.MAX_EVENTS}
 use Rattle.race_records.specs.{Name.is_place, Declarations.{DeclsState, count_of, place_number, with_place}}
@@ -65,6 +65,10 @@ event_of decls o = record {
   place = place_number decls.places o.place;
   place2 = option_map (place_number (with_place decls o.place).places) o.place2;
 }
+
+-- a place that stands in the table stands there still, with its number
+abbrev pub KeepsPlaces : List (List ℕ) → List (List ℕ) → Type 0
+KeepsPlaces old new = (n : ℕ) (place : List ℕ) → slice_get old n ≡ Some place → slice_get new n ≡ Some place
 
 -- the event is appended, with its places, behind the trace's and so many before these
 pub record AppendsEvent (before : ℕ) (old new : TraceState) (o : Occurrence) : Type 0 where

@@ -109,7 +109,7 @@ impl<G: Grammar, A: Allocator + Copy> Fed<G, A> {
 
 impl<G: Grammar, A: Allocator + Copy> Lines<G, A> {
     // Takes the lines that the piece ends, and keeps what is behind them.
-    fn take(&mut self, piece: &[u8]) -> Result<(), TextFault>
+    pub(crate) fn take(&mut self, piece: &[u8]) -> Result<(), TextFault>
         requires { (k : G.Known) × spec.IsBetween (G.stands_for k self.old.reader) self.old.part.items }
         ensures taken { MatchResult result
             (λ _. (k : G.Known) → spec.TakesBytes G.causes (G.stands_for k self.old.reader) (self.old.part.items ++ piece.now)
@@ -135,14 +135,14 @@ impl<G: Grammar, A: Allocator + Copy> Lines<G, A> {
     }
 
     // Whether no part of a line is left.
-    fn is_between_lines(&self) -> bool
+    pub(crate) fn is_between_lines(&self) -> bool
         ensures { IsTrue result ↔ (self.now.part.items ≡ []) }
     {
         self.part.is_empty()
     }
 
     // The same where no part of a line is left before. The lines are read where they lie.
-    fn take_whole(&mut self, bytes: &[u8]) -> Result<(), TextFault>
+    pub(crate) fn take_whole(&mut self, bytes: &[u8]) -> Result<(), TextFault>
         requires some { (k : G.Known) × StandsForSome (G.stands_for k self.old.reader) }
         requires none { self.old.part.items ≡ [] }
         ensures taken { MatchResult result
@@ -196,7 +196,10 @@ impl<G: Grammar, A: Allocator + Copy> Lines<G, A> {
 
 // Takes the line in front of the bytes, and tells what is behind it; nothing where no newline ends it.
 #[inline(always)]
-fn take_next<'a, G: Grammar>(reader: &mut G, bytes: &'a [u8]) -> Result<Option<&'a [u8]>, TextFault>
+pub(crate) fn take_next<'a, G: Grammar>(
+    reader: &mut G,
+    bytes: &'a [u8],
+) -> Result<Option<&'a [u8]>, TextFault>
     requires { (k : G.Known) × StandsForSome (G.stands_for k reader.old) }
     ensures { MatchResult result
         (λ rest. (k : G.Known) → spec.TakesNext G.causes (G.stands_for k reader.old) bytes.now rest (G.stands_for k reader.new))

@@ -5,8 +5,8 @@ ghost use Rattle.std.specs.Prelude.{◌≡◌, ◌≤◌, length, Some, IfSome, 
 use race_records::Decls;
 use std::alloc::Allocator;
 
-// Most traces have at most some thousand places.
-const SLOTS: usize = 4_096;
+// Most traces have at most some thousand places. Two slots beside each other are for the same marks.
+const SLOTS: usize = 16_384;
 
 /// The number of a place, and a mark of its bytes, by which most others are told from it.
 #[derive(Clone, Copy)]
@@ -44,7 +44,18 @@ impl<A: Allocator + Copy> Guesses<A> {
     pub(crate) fn number(&self, decls: &Decls<A>, place: &str, mark: u32) -> Option<u32>
         ensures { IfSome result (λ n. slice_get decls.now.places n ≡ Some place.now) }
     {
-        let guess = self.slots.as_slice().get(slot_of(mark))?;
+        match self.number_in(slot_of(mark), decls, place, mark) {
+            Some(number) => Some(number),
+            None => self.number_in(slot_of(mark) ^ 1, decls, place, mark),
+        }
+    }
+
+    // The same where it was guessed in this slot.
+    #[inline(always)]
+    fn number_in(&self, slot: usize, decls: &Decls<A>, place: &str, mark: u32) -> Option<u32>
+        ensures { IfSome result (λ n. slice_get decls.now.places n ≡ Some place.now) }
+    {
+        let guess = self.slots.as_slice().get(slot)?;
         if guess.mark == mark
             && guess.place < decls.place_count()
             && decls.place_text(guess.place) == place
@@ -55,11 +66,17 @@ impl<A: Allocator + Copy> Guesses<A> {
         }
     }
 
-    // The place with this mark has this number.
+    // The place with this mark has this number. What was guessed in its slot is guessed in the one beside it.
     #[inline(always)]
     pub(crate) fn note(&mut self, mark: u32, place: u32) {
-        if let Some(slot) = self.slots.as_mut_slice().get_mut(slot_of(mark)) {
-            *slot = Guess { mark, place };
+        let slots = self.slots.as_mut_slice();
+        let slot = slot_of(mark);
+        if let Some(before) = slots.get_mut(slot) {
+            let moved = *before;
+            *before = Guess { mark, place };
+            if let Some(beside) = slots.get_mut(slot ^ 1) {
+                *beside = moved;
+            }
         }
     }
 }
@@ -67,7 +84,7 @@ impl<A: Allocator + Copy> Guesses<A> {
 // The slot of a mark is told by its highest bits, in which every byte has a part.
 #[inline(always)]
 fn slot_of(mark: u32) -> usize {
-    (mark >> 20) as usize
+    (mark >> 18) as usize
 }
 
 // A mark of the first bytes, of those in the middle, and of the last. A place of fewer than eight

@@ -1,6 +1,7 @@
 //! The text of a trace: which bytes are one, which trace it is, and else the line at fault and why.
 #![tactic(auto)]
 
+mod ahead;
 mod cause;
 mod common;
 mod cut;
@@ -8,6 +9,7 @@ mod declaration;
 mod event;
 pub mod examples;
 mod fed;
+mod fed_ahead;
 mod fields;
 mod finder;
 mod form;
@@ -27,6 +29,7 @@ mod taking;
 mod words;
 mod writing;
 
+pub use ahead::LineAhead;
 pub use cause::{TextCause, TextFault};
 #[doc(hidden)]
 pub use common::{Cursor, Deed, Said};

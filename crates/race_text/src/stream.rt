@@ -1,13 +1,15 @@
 //! A trace that is read line by line, and whose events are handed on.
-ghost use Rattle.std.specs.Prelude.{◌≡◌, ◌+◌, ◌++◌, List, [], length, true, IsOk, MatchResult, OnOk};
+ghost use Rattle.std.specs.Prelude.{◌≡◌, ◌+◌, ◌++◌, List, [], length, drop, true, IsOk, IsTrue, MatchResult, OnOk};
 ghost use Rattle.race_records.specs.{declared.event.Event.Event, Events.IsTrace};
 ghost use Rattle.race_text.specs.{Fault.trace_causes, Grammar.{ForEachLines, Takes, Tells, TakesIfTold, TellsOfFront}};
+ghost use Rattle.race_text.specs.{Ahead.{AreAhead, IsAhead}, Common.line_in};
 ghost use Rattle.race_text.specs.Stream as spec;
 
+use crate::ahead::{LineAhead, read_lines};
 use crate::cause::TextCause;
 use crate::grammar::Grammar;
 use crate::reader::Reader;
-use crate::taking::{take_common_behind, take_event_behind};
+use crate::taking::{take_ahead_behind, take_common_behind, take_event_behind};
 use race_records::{Decls, Event};
 use std::alloc::Allocator;
 
@@ -33,7 +35,7 @@ impl<A: Allocator + Copy> Grammar for EventStream<A> {
     // The events that were handed on, and what is declared once there is an event.
     ghost Known = { Known };
 
-    ghost at_start = { record { past = []; declared = None } };
+    ghost at_start = { record { past = []; declared = None; places = [] } };
 
     ghost causes = { trace_causes };
 
@@ -112,6 +114,38 @@ impl<A: Allocator + Copy> EventStream<A> {
                     bytes,
                 )
             }
+        }
+    }
+
+    /// Reads ahead the lines that begin in this part of the bytes, into a list whose own are forgotten. Lines that can't
+    /// be read ahead are left out.
+    pub fn read_ahead(&self, bytes: &[u8], from: usize, to: usize, lines: &mut Vec<LineAhead, A>)
+        ensures { AreAhead self.now bytes.now lines.new.items }
+    {
+        match &self.reader.trace {
+            None => lines.clear(),
+            Some(trace) => {
+                read_lines(trace.decls(), &self.reader.guesses, bytes, from, to, lines);
+            }
+        }
+    }
+
+    /// Takes a line that was read ahead from these bytes, or tells why not: there are too many events, or memory is refused.
+    #[inline(always)]
+    pub(crate) fn take_ahead(&mut self, bytes: &[u8], line: LineAhead) -> Result<(), TextCause>
+        requires some { spec.StandsForSome self.old }
+        requires begun { IsTrue (spec.has_events self.old) }
+        requires ahead { IsAhead (spec.decls_of self.old).declarations (spec.decls_of self.old).places bytes.now line }
+        ensures taken { MatchResult result
+            (λ _. (past : List Event) → Takes trace_causes (spec.StandsWith self.old past)
+            (line_in (drop line.start bytes.now)) (spec.StandsWith self.new past))
+            (λ told. (past : List Event) → Tells trace_causes (spec.StandsWith self.old past)
+            (line_in (drop line.start bytes.now)) told) }
+        ensures declared { OnOk result (spec.DeclaresNothing self.old self.new) }
+    {
+        match &mut self.reader.trace {
+            None => unreachable!(),
+            Some(trace) => take_ahead_behind(trace, self.before, bytes, line),
         }
     }
 

@@ -1,12 +1,13 @@
 //! Lines behind the first event.
-ghost use Rattle.std.specs.Prelude.{◌≡◌, ◌+◌, ◌*◌, ◌<◌, ◌≤◌, ◌++◌, List, [], ◌∷◌, true, false, length, None, IsTrue};
+ghost use Rattle.std.specs.Prelude.{◌≡◌, ◌+◌, ◌*◌, ◌<◌, ◌≤◌, ◌++◌, List, [], ◌∷◌, drop, true, false, length, None, IsTrue};
 ghost use Rattle.std.specs.{Prelude.{IfSome, IfOk, IfErr, MatchResult, OnOk}, Option.option_map};
 ghost use Rattle.race_records.specs.{declared.event.Event.Event, Name.is_place};
 ghost use Rattle.race_records.specs.{Declarations.{place_number, with_place}, Events.{push_fault, op_is_limited}};
 ghost use Rattle.race_text.specs.{Declaring.is_declaration_line, Reading.drafted, Text.lines, Common.GoesOnIfTold};
-ghost use Rattle.race_text.specs.Common.{TellsOfCommon, op_of, said_of, event_at};
+ghost use Rattle.race_text.specs.{Ahead.IsAhead, Common.{TellsOfCommon, line_in, op_of, said_of, event_at}};
 ghost use Rattle.race_text.specs.Taking as spec;
 
+use crate::ahead::LineAhead;
 use crate::cause::TextCause;
 use crate::common::{Deed, Said, read_common};
 use crate::declaration::cause_of;
@@ -44,6 +45,7 @@ pub(crate) fn take_event_behind<A: Allocator + Copy>(
         → spec.TakesOrTells (lines (spec.behind past trace.old)) line.now result (spec.behind past trace.new) }
     ensures grown { OnOk result (0 < length trace.new.events) }
     ensures declared { OnOk result (trace.new.decls.declarations ≡ trace.old.decls.declarations) }
+    ensures places { OnOk result (spec.KeepsPlaces trace.old.decls.places trace.new.decls.places) }
 {
     let count = before + trace.len();
     let decls = trace.decls();
@@ -86,6 +88,7 @@ pub(crate) fn take_common_behind<'a, G, A: Allocator + Copy>(
         → spec.TakesCommon (spec.behind past trace.old) bytes.now result (spec.behind past trace.new) }
     ensures kept { OnOk result (length trace.old.events ≤ length trace.new.events) }
     ensures declared { OnOk result (trace.new.decls.declarations ≡ trace.old.decls.declarations) }
+    ensures places { OnOk result (spec.KeepsPlaces trace.old.decls.places trace.new.decls.places) }
 {
     match read_common(trace.decls(), bytes) {
         None => Ok(None),
@@ -94,6 +97,27 @@ pub(crate) fn take_common_behind<'a, G, A: Allocator + Copy>(
             Err(cause) => Err(cause),
         },
     }
+}
+
+// Takes a line that was read ahead from these bytes. So many events were handed on.
+#[inline(always)]
+pub(crate) fn take_ahead_behind<A: Allocator + Copy>(
+    trace: &mut Trace<A>,
+    before: usize,
+    bytes: &[u8],
+    line: LineAhead,
+) -> Result<(), TextCause>
+    requires read { spec.IsReadBehind before trace.old }
+    requires ahead { IsAhead trace.old.decls.declarations trace.old.decls.places bytes.now line }
+    ensures taken { (past : List Event) → length past ≡ before → spec.IsRead (spec.behind past trace.old)
+        → spec.TakesOrTells (lines (spec.behind past trace.old)) (line_in (drop line.start bytes.now)) result (spec.behind past trace.new) }
+    ensures grown { OnOk result (0 < length trace.new.events) }
+    ensures same { OnOk result (trace.new.decls ≡ trace.old.decls) }
+{
+    if before + trace.len() >= MAX_EVENTS {
+        return Err(TextCause::TooMany);
+    }
+    append_deed(trace, line.who, line.deed, line.place)
 }
 
 // Appends what a common line says, as `append` appends a draft.

@@ -64,7 +64,8 @@ impl CheckOptions {
         ensures block { result.block ≡ self.now.block }
     {
         Judging {
-            shards: self.shards,
+            threads: self.shards,
+            shards: 1,
             block: self.block,
         }
     }
@@ -80,7 +81,7 @@ impl CheckOptions {
 ///
 /// Where there are several shards, threads judge while this one reads on, and it waits for them. So
 /// what is promised holds where it returns, and it returns if its reads, writes and threads do.
-pub fn run_check<T: Threads + Wait + Sync, R: Read, W: Write, A: Allocator + Copy + Send>(
+pub fn run_check<T: Threads + Wait + Sync, R: Read, W: Write, A: Allocator + Copy + Send + Sync>(
     rt: &T,
     alloc: A,
     source: &mut Source<R>,
@@ -113,7 +114,7 @@ pub fn run_check<T: Threads + Wait + Sync, R: Read, W: Write, A: Allocator + Cop
 }
 
 // The same by shards, which judge while the trace is read.
-fn check_as_read<T: Threads + Wait + Sync, R: Read, W: Write, A: Allocator + Copy + Send>(
+fn check_as_read<T: Threads + Wait + Sync, R: Read, W: Write, A: Allocator + Copy + Send + Sync>(
     rt: &T,
     alloc: A,
     source: &mut Source<R>,

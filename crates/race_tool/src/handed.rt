@@ -7,6 +7,7 @@ ghost use Rattle.race_text.specs.Grammar as grammar;
 ghost use Rattle.race_text.specs.Stream.{Known, decls_of, events_of};
 ghost use Rattle.race_tool.specs.Streams as spec;
 
+use crate::input::{BLOCK, READ};
 use race_records::{Decls, Event};
 use race_shards::{Judge, JudgeFault, OpenGate};
 use race_text::EventStream;
@@ -17,6 +18,8 @@ use std::thread::Threads;
 /// Who judges: so many shards, of which several are handed so many events at a time.
 #[derive(Clone, Copy)]
 pub(crate) struct Judging {
+    /// How many threads read and judge.
+    pub(crate) threads: usize,
     /// How many shards share the variables among them.
     pub(crate) shards: usize,
     /// How many events they are handed at a time.
@@ -29,7 +32,12 @@ impl Judging {
         requires { is_block self.now.block ≡ true }
         ensures { 0 < result }
     {
-        if self.shards == 1 { 1 } else { self.block }
+        1
+    }
+
+    /// How many bytes are read at once.
+    pub(crate) fn read_size(&self) -> usize {
+        if self.threads == 1 { READ } else { BLOCK }
     }
 }
 

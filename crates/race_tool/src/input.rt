@@ -11,13 +11,16 @@ use std::io::Read;
 use thiserror::Error;
 
 /// How many bytes one read may give.
-pub(crate) const BLOCK: usize = 65_536;
+pub(crate) const BLOCK: usize = 1_048_576;
+
+/// How many one thread reads at once.
+pub(crate) const READ: usize = 65_536;
 
 /// How many reads one input may take: a reader that never ends is refused then.
 pub(crate) const MAX_TURNS: u64 = 4_294_967_296;
 
 // Definitions cite these numbers, so each is written down twice.
-const _: () = prove!(BLOCK == 65_536 && MAX_TURNS == 4_294_967_296);
+const _: () = prove!(BLOCK == 1_048_576 && MAX_TURNS == 4_294_967_296);
 
 /// Why an input wasn't read.
 #[derive(Clone, Copy, Debug, PartialEq, Eq, Error)]
@@ -43,7 +46,7 @@ pub(crate) fn read_text<R: Read, G: Grammar, A: Allocator + Copy>(
     requires { G.stands_for G.at_start grammar [] }
     ensures { ReadsInput (G.is_text_of G.at_start) G.causes R.remaining source.old source.new result }
 {
-    let Ok(mut block) = blank_block(alloc) else {
+    let Ok(mut block) = blank_block(alloc, READ) else {
         return Err(ReadFault::OutOfMemory);
     };
     let mut reader = Fed::new(alloc, grammar);
@@ -57,10 +60,10 @@ pub(crate) fn read_text<R: Read, G: Grammar, A: Allocator + Copy>(
     Err(ReadFault::Endless)
 }
 
-pub(crate) fn blank_block<A: Allocator>(alloc: A) -> Result<Vec<u8, A>, AllocError>
-    ensures { IfOk result (λ block. vec_len block ≡ BLOCK) }
+pub(crate) fn blank_block<A: Allocator>(alloc: A, len: usize) -> Result<Vec<u8, A>, AllocError>
+    ensures { IfOk result (λ block. vec_len block ≡ len) }
 {
-    Vec::from_elem(alloc, 0, BLOCK)
+    Vec::from_elem(alloc, 0, len)
 }
 
 // Reads once, and feeds what was read. Tells whether there were bytes, or the first faulty line.

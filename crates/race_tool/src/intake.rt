@@ -7,10 +7,11 @@ ghost use Rattle.race_tool.specs.{Input.ReadsInput, Intake.{CanFinish, IsReadabl
 ghost use Rattle.race_tool.specs.Streams as spec;
 
 use crate::handed::{Handed, Judging};
-use crate::input::{MAX_TURNS, ReadFault, blank_block, feed_block, set_memory_apart};
+use crate::input::{MAX_TURNS, ReadFault, blank_block, set_memory_apart};
+use crate::round::{feed_round, lists_for};
 use race_records::Source;
 use race_shards::Judge;
-use race_text::{EventStream, Fed, TextFault};
+use race_text::{EventStream, Fed, LineAhead, TextFault};
 use std::alloc::{AllocError, Allocator};
 use std::io::Read;
 use std::sync::Wait;
@@ -30,6 +31,8 @@ pub(crate) struct JudgedStream<A: Allocator> {
 #[derive(Drop)]
 struct Intake<A: Allocator> {
     block: Vec<u8, A>,
+    // What each thread reads ahead.
+    ahead: Vec<Vec<LineAhead, A>, A>,
     reader: Fed<EventStream<A>, A>,
     turns: u64,
     // How many events are read before they are handed on.
@@ -38,7 +41,7 @@ struct Intake<A: Allocator> {
 
 /// Reads a trace as `read_text` does, and judges its events. Several shards judge a block of them while the
 /// next one is read, and one shard judges what was read before more is read.
-pub(crate) fn read_judged<T: Threads + Wait + Sync, R: Read, A: Allocator + Copy + Send>(
+pub(crate) fn read_judged<T: Threads + Wait + Sync, R: Read, A: Allocator + Copy + Send + Sync>(
     rt: &T,
     alloc: A,
     source: &mut Source<R>,
@@ -47,7 +50,10 @@ pub(crate) fn read_judged<T: Threads + Wait + Sync, R: Read, A: Allocator + Copy
     requires { is_block judging.block ≡ true }
     ensures { ReadsInput spec.IsReadText trace_causes R.remaining source.old source.new result }
 {
-    let Ok(block) = blank_block(alloc) else {
+    let Ok(block) = blank_block(alloc, judging.read_size()) else {
+        return Err(ReadFault::OutOfMemory);
+    };
+    let Ok(ahead) = lists_for(alloc, judging.threads) else {
         return Err(ReadFault::OutOfMemory);
     };
     let mut handed = Handed::new(alloc, judging);
@@ -55,6 +61,7 @@ pub(crate) fn read_judged<T: Threads + Wait + Sync, R: Read, A: Allocator + Copy
     let reader = Fed::new(alloc, first);
     let mut intake = Intake {
         block,
+        ahead,
         reader,
         turns: 0,
         wanted: judging.wanted(),
@@ -73,7 +80,7 @@ pub(crate) fn read_judged<T: Threads + Wait + Sync, R: Read, A: Allocator + Copy
 }
 
 // Judges the events that were handed on, and reads on: at the same time where there are several shards.
-fn read_next<T: Threads + Wait + Sync, R: Read, A: Allocator + Copy + Send>(
+fn read_next<T: Threads + Wait + Sync, R: Read, A: Allocator + Copy + Send + Sync>(
     rt: &T,
     source: &mut Source<R>,
     intake: &mut Intake<A>,
@@ -84,9 +91,9 @@ fn read_next<T: Threads + Wait + Sync, R: Read, A: Allocator + Copy + Send>(
     ensures reads { ReadsOnAll R.remaining source.old source.new intake.old intake.new result }
     ensures judges { IfOk result (λ answer. OnOk answer (spec.JudgesAll handed.old handed.new)) }
 {
-    if handed.judging.shards == 1 || handed.events.is_empty() {
+    if handed.judging.threads == 1 || handed.events.is_empty() {
         return match handed.judge_all(rt) {
-            Ok(()) => intake.read_on(source),
+            Ok(()) => intake.read_on(rt, source),
             Err(_) => Err(ReadFault::OutOfMemory),
         };
     }
@@ -115,7 +122,7 @@ fn first_told(
 }
 
 // Judges the events that were handed on, and reads on at the same time.
-fn judge_and_read<T: Threads + Wait + Sync, R: Read, A: Allocator + Copy + Send>(
+fn judge_and_read<T: Threads + Wait + Sync, R: Read, A: Allocator + Copy + Send + Sync>(
     rt: &T,
     source: &mut Source<R>,
     intake: &mut Intake<A>,
@@ -136,22 +143,23 @@ fn judge_and_read<T: Threads + Wait + Sync, R: Read, A: Allocator + Copy + Send>
         { handed.judge_all(rt) },
         &mut ||
             requires { (k : Known) × IsReadable (StandsFor k) intake.now }
-        { intake.read_on(source) },
+        { intake.read_on(rt, source) },
     )
 }
 
-impl<A: Allocator + Copy> Intake<A> {
+impl<A: Allocator + Copy + Send + Sync> Intake<A> {
     // Reads until there are as many events as are wanted, and tells whether there are, or to the end of the input or of
     // the block that ends its first faulty line.
-    fn read_on<R: Read>(
+    fn read_on<T: Threads + Sync, R: Read>(
         &mut self,
+        rt: &T,
         source: &mut Source<R>,
     ) -> Result<Result<bool, TextFault>, ReadFault>
         requires { (k : Known) × IsReadable (StandsFor k) self.old }
         ensures { ReadsOnAll R.remaining source.old source.new self.old self.new result }
     {
         while self.turns < MAX_TURNS {
-            match feed_block(source, self.block.as_mut_slice(), &mut self.reader) {
+            match feed_round(rt, source, self.block.as_mut_slice(), &mut self.reader, self.ahead.as_mut_slice()) {
                 Ok(Ok(true)) => self.turns += 1,
                 Ok(Ok(false)) => return Ok(Ok(false)),
                 Ok(Err(fault)) => return Ok(Err(fault)),
@@ -166,7 +174,7 @@ impl<A: Allocator + Copy> Intake<A> {
 }
 
 // What was read as a whole, when its last events are judged too.
-fn finish<T: Threads + Wait, A: Allocator + Copy + Send>(
+fn finish<T: Threads + Wait, A: Allocator + Copy + Send + Sync>(
     rt: &T,
     alloc: A,
     intake: Intake<A>,

@@ -4,7 +4,7 @@ ghost use Rattle.race_records.specs.Devices.{unread, source_reads, source_failur
 ghost use Rattle.race_text.specs.Fed.{IsFed, IsReady};
 ghost use Rattle.race_tool.specs.Input.{ReadsInput, FeedsMore};
 
-use crate::input::{BLOCK, MAX_TURNS, ReadFault, blank_block, set_memory_apart};
+use crate::input::{BLOCK, MAX_TURNS, READ, ReadFault, blank_block, set_memory_apart};
 use race_records::Source;
 use race_text::{Fed, Grammar, TextFault};
 use std::alloc::Allocator;
@@ -20,7 +20,7 @@ pub(crate) fn read_kept<R: Read, G: Grammar, A: Allocator + Copy>(
     requires { G.stands_for G.at_start grammar [] }
     ensures { ReadsInput (G.is_text_of G.at_start) G.causes R.remaining source.old source.new result }
 {
-    let Ok(mut block) = blank_block(alloc) else {
+    let Ok(mut block) = blank_block(alloc, READ) else {
         return Err(ReadFault::OutOfMemory);
     };
     let mut reader = Fed::new(alloc, grammar);

@@ -23,6 +23,7 @@ mod race;
 mod race_printing;
 mod recorded;
 mod reply;
+mod round;
 mod run;
 pub mod status;
 mod stream_found;

@@ -1,5 +1,5 @@
 -- A line that isn't a common one is taken by the reader as it stood.
-use Rattle.std.proofs.Common.{None, sym, subst}
+use Rattle.std.proofs.Common.{None, subst}
 use Rattle.race_text.{specs.Grammar.TakesIfTold, proofs.FedLemmas.{match_map, next_still, tells_still}}
 use Rattle.race_text.proofs.fed.take_next.Goals as goal
 

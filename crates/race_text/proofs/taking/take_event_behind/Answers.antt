@@ -1,6 +1,6 @@
 use Rattle.std.proofs.Common.{◌≡◌, ◌+◌, length, rules, sym, ap, ◌∙◌}
 use Rattle.race_text.specs.{Owed.owed, Fault.{seen_so_far, line_cause}, Reading.drafted, Taking.behind}
-use Rattle.race_text.proofs.BehindLemmas.{count_behind, event_answered_behind, some_before, few_behind}
+use Rattle.race_text.proofs.BehindLemmas.{count_behind, event_answered_behind, keeps_places, some_before, few_behind}
 use Rattle.race_text.proofs.TraceLemmas.{cause_behind, fitting, event_grown, no_event_is_told, is_there, says_event}
 use Rattle.race_text.proofs.taking.take_event_behind.Goals as goal
 
@@ -45,3 +45,7 @@ returns-in-None-clause-taken g c = λ past count read.
 
 pub returns-in-None-clause-grown : goal.returns-in-None-clause-grown
 returns-in-None-clause-grown g c = search rules steps 100000
+
+pub returns-in-Some-clause-places : goal.returns-in-Some-clause-places
+returns-in-Some-clause-places g c =
+    keeps_places c.args.before c.args.trace.now c.append.new.trace (drafted c.in-Some.draft) c.append.result c.append.ensures

@@ -1,6 +1,6 @@
-use Rattle.std.{proofs.Common.{◌<◌, ℕ, List, Ok, Err, length, take, subst}, specs.Io.KnownBytes.Appends}
-use Rattle.race_records.specs.{declared.sink.WriteFault.WriteFault, Declarations.IsWellFormed, Devices.written}
-use Rattle.race_records.{specs.Page.Printing, proofs.PageLemmas.IfErr-map}
+use Rattle.std.{proofs.Common.{subst}}
+use Rattle.race_records.specs.{declared.sink.WriteFault.WriteFault, Declarations.IsWellFormed}
+use Rattle.race_records.{proofs.PageLemmas.IfErr-map}
 use Rattle.race_text.{specs.Text.text, proofs.{OutputLemmas.{writes_flushed, writes_broken}, PieceLemmas.cut_is_exact}}
 use Rattle.race_text.proofs.{ShortLemmas.text_short, WritingLemmas.printed_is}
 use Rattle.race_text.proofs.writing.write_trace.Goals as goal

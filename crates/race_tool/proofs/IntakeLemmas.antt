@@ -5,9 +5,9 @@ use Rattle.race_records.specs.declared.source.Source.{Source}
 use Rattle.race_records.specs.Devices.{unread, source_reads, source_failures, more_by, one_more}
 use Rattle.race_text.specs.declared.{cause.TextFault.TextFault, fed.Fed.Fed, stream.EventStream.EventStream}
 use Rattle.race_text.specs.{Fault.trace_causes, Fed.{IsFed, IsReady}, Stream.has_events}
-use Rattle.race_tool.specs.declared.input.{ReadFault.ReadFault, TheConstants.{BLOCK, MAX_TURNS}}
+use Rattle.race_tool.specs.declared.input.{ReadFault.ReadFault, TheConstants.MAX_TURNS}
 use Rattle.race_tool.specs.declared.intake.{Intake.Intake, JudgedStream.JudgedStream}
-use Rattle.race_tool.specs.Input.{HasReadAll, FeedsMore, IsBetweenFine, ReadsBy}
+use Rattle.race_tool.specs.Input.{HasReadAll, FeedsMore, IsBetweenFine, IsRoom, ReadsBy}
 use Rattle.race_tool.specs.{Intake.{HasTaken, GoesOnTo, IsReadable, IsReadOn, ReadsOn, ReadsOnAll}, Streams.IsReadText}
 use Rattle.race_tool.proofs.{InputEnds.feeds_as, InputLemmas.{err, fed_none, fed_more, fed_all, fault_read, fine_before, read_more}}
 
@@ -166,7 +166,7 @@ fine_now Stands old new answer more is fine on was =
 -- so the next block can be read
 pub readable_now : {A : Type 0} {Stands : EventStream A → List (List ℕ) → Type 0} {old new : Intake A} {answer : Result Bool TextFault} {more : Bool}
     → answer ≡ Ok more → OnOk answer (new.reader.fault ≡ None) → (IsReady Stands old.reader → IsReady Stands new.reader) → IsReadable Stands old
-    → vec_len new.block ≡ BLOCK → new.wanted ≡ old.wanted → new.turns ≤ MAX_TURNS → IsReadable Stands new
+    → IsRoom (vec_len new.block) → new.wanted ≡ old.wanted → new.turns ≤ MAX_TURNS → IsReadable Stands new
 readable_now {A} {Stands} {old} {new} {answer} {more} is fine on was room wanted limit = record {
   room = room;
   some = subst (λ n. 0 < n) (sym wanted) was.some;

@@ -185,7 +185,7 @@ module _ {R A : Type 0} {remaining : R → Option (List ℕ)} {start source now 
       on lines S = (stands at.known lines (behind lines S)).stream
 
       pub next_turn : CanJudgeAll after
-          → IsAt remaining start now (record { block = next.block; reader = with_stream next.reader s; turns = next.turns; wanted = next.wanted }) after
+          → IsAt remaining start now (record { block = next.block; ahead = next.ahead; reader = with_stream next.reader s; turns = next.turns; wanted = next.wanted }) after
       next_turn can =
           let taken = went_to (Ok true) is in
           let readable = (went_on true is).readable in

@@ -14,6 +14,7 @@ pub mod StreamedLemmas
 pub mod StreamedAnswers
 pub mod IntakeLemmas
 pub mod IntakeTurns
+pub mod RoundLemmas
 pub mod PredictLemmas
 pub mod ExplainLemmas
 pub mod ListedLemmas

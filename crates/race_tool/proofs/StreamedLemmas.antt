@@ -1,7 +1,7 @@
 -- A trace that is judged while it is read: its lines, its judge, and what is found of it.
 use Rattle.std.proofs.Common.{◌≡◌, ℕ, ◌+◌, ◌<◌, ◌≤◌, IsTrue, All, List, [], ◌++◌, length, Option, Some, None, IfSome}
 use Rattle.std.proofs.Common.{refl, sym, ap, ◌∙◌, subst, arith, append-nil, length-append, slice_index_or}
-use Rattle.std.specs.{Option.{option_map, is_some}}
+use Rattle.std.{specs.Option.{option_map, is_some}, proofs.lemmas.Option.none-some}
 use Rattle.race_records.specs.declared.{event.Event.Event, kind.Kind.Kind, trace.TheConstants.MAX_EVENTS}
 use Rattle.race_records.specs.{Declarations.{Declaration, DeclsState, capacity_of}, Events.{TraceState, IsTrace}}
 use Rattle.race_model.specs.Verdict.{IsVerdict}
@@ -87,18 +87,18 @@ all_judged old new events goes known h = record { front = known.past; past_is = 
     by (Some ds) J = subst (λ (es : List Event). judging.StandsFor ds new es) (sym h.past_is) (goes ds h.front J)
 
 -- what was declared when the judge was made is declared still
-judge_now : {A : Type 0} (s : EventStream A) (declared : Option (List Declaration)) → IfSome declared (HasDeclared s) → (judge : Option JudgeState) (past : List Event)
+judge_now : {A : Type 0} (s : EventStream A) (places : List (List ℕ)) (declared : Option (List Declaration)) → IfSome declared (HasDeclared places s) → (judge : Option JudgeState) (past : List Event)
     → IsJudgeOf declared judge past → IsJudgeOf (Some (decls_of s).declarations) judge past
-judge_now s declared has None past judged = judged
-judge_now s None has (Some k) past judged = absurd judged
-judge_now s (Some ds) has (Some k) past judged = subst (λ (ds : List Declaration). judging.StandsFor ds k past) (sym has.1) judged
+judge_now s places declared has None past judged = judged
+judge_now s places None has (Some k) past judged = absurd judged
+judge_now s places (Some ds) has (Some k) past judged = subst (λ (ds : List Declaration). judging.StandsFor ds k past) (sym has.same) judged
 
 -- a stream whose events are handed on, by the judge of those before them, which was begun if there was none
 module _ {A : Type 0} (h : Handed A) (s : EventStream A) (k : JudgeState) (none : h.events.items ≡ [])
     (begun : (past : List Event) → IsJudgeOf (Some (decls_of s).declarations) h.judge past → judging.StandsFor (decls_of s).declarations k past) where
   pub judged_before : (known : Known) (lines : List (List ℕ)) → StandsBehind h known s lines → judging.StandsFor (decls_of s).declarations k known.past
   judged_before known lines S =
-      begun known.past (judge_now s known.declared S.stream.declared h.judge known.past (none_left known h.judge h.events.items none S.handed))
+      begun known.past (judge_now s known.places known.declared S.stream.declared h.judge known.past (none_left known h.judge h.events.items none S.handed))
 
   pub can_take_next : (known : Known) × grammar.StandsForSome (StandsBehind h known s) → IsTrace (trace_with [] s) → CanTake k (events_of s)
   can_take_next (known, some) well = can_take s known.past some.lines some.stands.stream.stream k (judged_before known some.lines some.stands) well
@@ -107,7 +107,7 @@ module _ {A : Type 0} (h : Handed A) (s : EventStream A) (k : JudgeState) (none 
       → DeclaresNothing s new → ((past : List Event) → ForEachLines (StandsWith s past) (StandsWith new (past ++ events_of s)))
       → (known : Known) → ForEachLines (StandsBehind h known s) (StandsBehind after (known_behind known s) new)
   handed_over new after judge moved some declares stands known lines S = record {
-    stream = record { stream = stands known.past lines S.stream.stream; declared = (declares.stays some, declares.same some) };
+    stream = record { stream = stands known.past lines S.stream.stream; declared = record { event = declares.stays some; same = declares.same some; kept = λ n place at. absurd (none-some place at) } };
     handed = record {
       front = known.past;
       past_is = ap (λ (es : List Event). known.past ++ es) (sym moved);

@@ -7,6 +7,10 @@ use Rattle.race_text.specs.{declared.{cause.TextFault.TextFault, fed.Fed.Fed}, T
 use Rattle.race_text.specs.{Lines.{Causes, first_fault}, Fault.trace_causes, Fed.{IsBetween, ended_fault}}
 use Rattle.race_tool.specs.declared.input.{ReadFault.ReadFault, TheConstants.{BLOCK, MAX_TURNS}}
 
+-- a block has room for some bytes, and not for too many
+abbrev pub IsRoom : ℕ → Type 0
+IsRoom room = (0 < room) × (room ≤ BLOCK)
+
 -- the first faulty line ends in the last bytes that were read, as many as a block has at most
 pub record StopsAtFault (causes : Causes) (bytes : List ℕ) : Type 0 where
   pub front : List ℕ

@@ -5,14 +5,14 @@ use Rattle.race_records.specs.{declared.source.Source.Source, Devices.{unread, s
 use Rattle.race_records.specs.Devices.{one_more}
 use Rattle.race_text.specs.declared.{cause.TextFault.TextFault, fed.Fed.Fed, stream.EventStream.EventStream}
 use Rattle.race_text.specs.{Fault.trace_causes, Fed.IsFed, Stream.{Known, StandsFor, has_events}}
-use Rattle.race_tool.specs.declared.{handed.Handed.Handed, input.{ReadFault.ReadFault, TheConstants.{BLOCK, MAX_TURNS}}}
+use Rattle.race_tool.specs.declared.{handed.Handed.Handed, input.{ReadFault.ReadFault, TheConstants.{MAX_TURNS}}}
 use Rattle.race_tool.specs.declared.intake.{Intake.Intake, JudgedStream.JudgedStream}
-use Rattle.race_tool.specs.Input.{HasRead, HasReadAll, IsBetweenFine, ReadsBy, ReadsFine, ReadsMany}
+use Rattle.race_tool.specs.Input.{HasRead, HasReadAll, IsBetweenFine, IsRoom, ReadsBy, ReadsFine, ReadsMany}
 use Rattle.race_tool.specs.Streams.{IsHanded, IsReadText}
 
 -- the next block can be read and fed to a reader that stands for some lines
 pub record IsReadable {A : Type 0} (Stands : EventStream A → List (List ℕ) → Type 0) (now : Intake A) : Type 0 where
-  pub room : vec_len now.block ≡ BLOCK
+  pub room : IsRoom (vec_len now.block)
   pub some : 0 < now.wanted
   pub ready : IsBetweenFine Stands now.reader
   pub limit : now.turns ≤ MAX_TURNS

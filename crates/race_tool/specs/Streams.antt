@@ -54,7 +54,7 @@ pub record CanHandOn {A : Type 0} (h : Handed A) (s : EventStream A) : Type 0 wh
 
 -- what is known of a stream when its events are handed on too
 abbrev pub known_behind : {A : Type 0} → Known → EventStream A → Known
-known_behind k s = record { past = k.past ++ events_of s; declared = Some (decls_of s).declarations }
+known_behind k s = record { past = k.past ++ events_of s; declared = Some (decls_of s).declarations; places = [] }
 
 -- the bytes are the text of the trace that was read, with the events that were handed on, and the judge stands for all its events
 pub record IsReadText {A : Type 0} (j : JudgedStream A) (bytes : List ℕ) : Type 0 where

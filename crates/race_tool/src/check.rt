@@ -27,9 +27,9 @@ use std::thread::Threads;
 /// How a trace is judged.
 #[derive(Clone, Copy, Debug, PartialEq, Eq)]
 pub struct CheckOptions {
-    /// How many shards share the variables among them, 1 to 64.
+    /// How many threads read and judge, 1 to 64.
     pub shards: usize,
-    /// How many events several shards are handed at a time, 1 to 65,536. One shard is handed each as it comes.
+    /// How many events several threads read before these are judged, 1 to 65,536. One thread judges what each read gives.
     pub block: usize,
     /// Whether the plain judge is wanted, which takes at most 2,000 events.
     pub plain: bool,
@@ -58,14 +58,13 @@ impl CheckOptions {
         1 <= self.shards && self.shards <= MAX_SHARDS && 1 <= self.block && self.block <= MAX_BLOCK
     }
 
-    // Who judges.
+    // Who reads and judges.
     fn judging(&self) -> Judging
-        ensures shards { result.shards ≡ self.now.shards }
+        ensures threads { result.threads ≡ self.now.shards }
         ensures block { result.block ≡ self.now.block }
     {
         Judging {
             threads: self.shards,
-            shards: 1,
             block: self.block,
         }
     }
@@ -79,7 +78,7 @@ impl CheckOptions {
 /// says that an option is out of its limits, or that there are more events than the plain judge
 /// takes, which the report tells; 4 that memory or a thread was refused; 5 that a device failed.
 ///
-/// Where there are several shards, threads judge while this one reads on, and it waits for them. So
+/// Where there are several threads, one judges while the others read on, and this one waits for them. So
 /// what is promised holds where it returns, and it returns if its reads, writes and threads do.
 pub fn run_check<T: Threads + Wait + Sync, R: Read, W: Write, A: Allocator + Copy + Send + Sync>(
     rt: &T,
@@ -113,7 +112,7 @@ pub fn run_check<T: Threads + Wait + Sync, R: Read, W: Write, A: Allocator + Cop
     check_as_read(rt, alloc, source, sink, options)
 }
 
-// The same by shards, which judge while the trace is read.
+// The same by threads, of which one judges while the others read on.
 fn check_as_read<T: Threads + Wait + Sync, R: Read, W: Write, A: Allocator + Copy + Send + Sync>(
     rt: &T,
     alloc: A,

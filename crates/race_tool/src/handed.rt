@@ -5,39 +5,44 @@ ghost use Rattle.race_shards.specs.Judging as judges;
 ghost use Rattle.race_shards.specs.Limits.{is_block};
 ghost use Rattle.race_text.specs.Grammar as grammar;
 ghost use Rattle.race_text.specs.Stream.{Known, decls_of, events_of};
+ghost use Rattle.race_tool.specs.Input.{IsRoom};
 ghost use Rattle.race_tool.specs.Streams as spec;
 
-use crate::input::{BLOCK, READ};
+use crate::input::{BLOCK, SMALL_BLOCK};
 use race_records::{Decls, Event};
-use race_shards::{Judge, JudgeFault, OpenGate};
+use race_shards::{Judge, OpenGate};
 use race_text::EventStream;
 use std::alloc::{AllocError, Allocator};
 use std::sync::Wait;
 use std::thread::Threads;
 
-/// Who judges: so many shards, of which several are handed so many events at a time.
+/// How many threads read and judge, and how many events are judged at a time where there are several.
 #[derive(Clone, Copy)]
 pub(crate) struct Judging {
-    /// How many threads read and judge.
+    /// How many threads there are.
     pub(crate) threads: usize,
-    /// How many shards share the variables among them.
-    pub(crate) shards: usize,
-    /// How many events they are handed at a time.
+    /// How many events they read before these are judged.
     pub(crate) block: usize,
 }
 
 impl Judging {
-    /// How many events are read before they are handed on: one shard takes them as they come.
+    /// How many events are read before they are handed on: one thread takes them as they come.
     pub(crate) fn wanted(&self) -> usize
         requires { is_block self.now.block ≡ true }
         ensures { 0 < result }
     {
-        1
+        if self.threads == 1 { 1 } else { self.block }
     }
 
     /// How many bytes are read at once.
-    pub(crate) fn read_size(&self) -> usize {
-        if self.threads == 1 { READ } else { BLOCK }
+    pub(crate) fn block_size(&self) -> usize
+        ensures { IsRoom result }
+    {
+        if self.threads == 1 {
+            SMALL_BLOCK
+        } else {
+            BLOCK
+        }
     }
 }
 
@@ -76,7 +81,7 @@ impl<A: Allocator + Copy + Send> Handed<A> {
         let Some(judge) = &mut self.judge else {
             return Ok(());
         };
-        match feed_handed(rt, self.judging, judge, self.events.as_slice()) {
+        match judge.feed(rt, self.events.as_slice(), &OpenGate) {
             Ok(()) => {
                 self.events.clear();
                 Ok(())
@@ -93,7 +98,7 @@ impl<A: Allocator + Copy + Send> Handed<A> {
         ensures can { OnOk result (spec.CanJudgeAll self.new) }
     {
         let before = self.judge.take();
-        let judge = started(alloc, self.judging.shards, stream.decls(), before)?;
+        let judge = started(alloc, stream.decls(), before)?;
         self.judge = Some(judge);
         stream.hand_over(&mut self.events);
         Ok(())
@@ -112,46 +117,26 @@ impl<A: Allocator + Copy + Send> Handed<A> {
         ensures { IfOk result (λ judge. (k : Known) → grammar.ForEachLines (spec.StandsBehind self k stream.now)
             (λ _. judges.StandsFor (decls_of stream.now).declarations judge (k.past ++ events_of stream.now))) }
     {
-        let mut judge = started(alloc, self.judging.shards, stream.decls(), self.judge)?;
-        match feed_handed(rt, self.judging, &mut judge, stream.events()) {
+        let mut judge = started(alloc, stream.decls(), self.judge)?;
+        match judge.feed(rt, stream.events(), &OpenGate) {
             Ok(()) => Ok(judge),
             Err(_) => Err(AllocError),
         }
     }
 }
 
-// Lets the judge take the events: several shards in blocks, and one at once.
-fn feed_handed<T: Threads + Wait, A: Allocator + Copy + Send>(
-    rt: &T,
-    judging: Judging,
-    judge: &mut Judge<A>,
-    events: &[Event],
-) -> Result<(), JudgeFault>
-    requires can { judges.CanTake judge.old events.now }
-    requires block { is_block judging.block ≡ true }
-    ensures { OnOk result (judges.GoesOn judge.old events.now judge.new) }
-{
-    if judging.shards == 1 {
-        judge.feed(rt, events, &OpenGate)
-    } else {
-        judge.feed_in_blocks(rt, events, judging.block, &OpenGate)
-    }
-}
-
 // The judge, or else one that has taken no event.
 fn started<A: Allocator + Copy + Send>(
     alloc: A,
-    shards: usize,
     decls: &Decls<A>,
     before: Option<Judge<A>>,
 ) -> Result<Judge<A>, AllocError>
     ensures stands { IfOk result (λ judge. (past : List Event) → spec.IsJudgeOf (Some decls.now.declarations) before past
         → judges.StandsFor decls.now.declarations judge past) }
-    ensures shards { IfOk result (λ judge. IfSome before (λ first. first.count ≡ shards) → judge.count ≡ shards) }
 {
     match before {
         Some(judge) => Ok(judge),
-        None => match Judge::new(alloc, decls, shards) {
+        None => match Judge::new(alloc, decls, 1) {
             Ok(judge) => Ok(judge),
             Err(_) => Err(AllocError),
         },

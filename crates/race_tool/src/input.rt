@@ -2,7 +2,7 @@
 ghost use Rattle.std.specs.{Prelude.{◌≡◌, ◌≢◌, [], length, vec_len, None, IfOk, IfErr, OnOk}, Io.KnownBytes.Keeps};
 ghost use Rattle.race_records.specs.Devices.{unread, source_reads, source_failures, one_more};
 ghost use Rattle.race_text.specs.{declared.{cause.{TextCause.{TextCause as Cause}}}, Fed.{IsFed, IsReady}};
-ghost use Rattle.race_tool.specs.Input.{ReadsInput, FeedsMore};
+ghost use Rattle.race_tool.specs.Input.{ReadsInput, FeedsMore, IsRoom};
 
 use race_records::Source;
 use race_text::{Fed, Grammar, TextCause, TextFault};
@@ -13,8 +13,8 @@ use thiserror::Error;
 /// How many bytes one read may give.
 pub(crate) const BLOCK: usize = 1_048_576;
 
-/// How many one thread reads at once.
-pub(crate) const READ: usize = 65_536;
+/// How many it gives where one thread reads.
+pub(crate) const SMALL_BLOCK: usize = 65_536;
 
 /// How many reads one input may take: a reader that never ends is refused then.
 pub(crate) const MAX_TURNS: u64 = 4_294_967_296;
@@ -46,7 +46,7 @@ pub(crate) fn read_text<R: Read, G: Grammar, A: Allocator + Copy>(
     requires { G.stands_for G.at_start grammar [] }
     ensures { ReadsInput (G.is_text_of G.at_start) G.causes R.remaining source.old source.new result }
 {
-    let Ok(mut block) = blank_block(alloc, READ) else {
+    let Ok(mut block) = blank_block(alloc, SMALL_BLOCK) else {
         return Err(ReadFault::OutOfMemory);
     };
     let mut reader = Fed::new(alloc, grammar);
@@ -72,7 +72,7 @@ pub(crate) fn feed_block<R: Read, G: Grammar, A: Allocator + Copy>(
     block: &mut [u8],
     reader: &mut Fed<G, A>,
 ) -> Result<Result<bool, TextFault>, ReadFault>
-    requires length { length block.old ≡ BLOCK }
+    requires block { IsRoom (length block.old) }
     requires ready { (k : G.Known) × IsReady (G.stands_for k) reader.old }
     ensures ok { IfOk result (λ answer. (k : G.Known) → FeedsMore G.causes (unread R.remaining source.old) (unread R.remaining source.new)
         (IsFed G.causes (G.stands_for k) reader.old) (IsFed G.causes (G.stands_for k) reader.new) answer) }

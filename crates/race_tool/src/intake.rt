@@ -8,7 +8,7 @@ ghost use Rattle.race_tool.specs.Streams as spec;
 
 use crate::handed::{Handed, Judging};
 use crate::input::{MAX_TURNS, ReadFault, blank_block, set_memory_apart};
-use crate::round::{feed_round, lists_for};
+use crate::round::{feed_round, lists_ahead};
 use race_records::Source;
 use race_shards::Judge;
 use race_text::{EventStream, Fed, LineAhead, TextFault};
@@ -31,7 +31,7 @@ pub(crate) struct JudgedStream<A: Allocator> {
 #[derive(Drop)]
 struct Intake<A: Allocator> {
     block: Vec<u8, A>,
-    // What each thread reads ahead.
+    // What each thread reads ahead: a list for each, and none where one thread reads.
     ahead: Vec<Vec<LineAhead, A>, A>,
     reader: Fed<EventStream<A>, A>,
     turns: u64,
@@ -39,8 +39,8 @@ struct Intake<A: Allocator> {
     wanted: usize,
 }
 
-/// Reads a trace as `read_text` does, and judges its events. Several shards judge a block of them while the
-/// next one is read, and one shard judges what was read before more is read.
+/// Reads a trace as `read_text` does, and judges its events. Where there are several threads, one judges what was read
+/// while the others read on.
 pub(crate) fn read_judged<T: Threads + Wait + Sync, R: Read, A: Allocator + Copy + Send + Sync>(
     rt: &T,
     alloc: A,
@@ -50,10 +50,10 @@ pub(crate) fn read_judged<T: Threads + Wait + Sync, R: Read, A: Allocator + Copy
     requires { is_block judging.block ≡ true }
     ensures { ReadsInput spec.IsReadText trace_causes R.remaining source.old source.new result }
 {
-    let Ok(block) = blank_block(alloc, judging.read_size()) else {
+    let Ok(block) = blank_block(alloc, judging.block_size()) else {
         return Err(ReadFault::OutOfMemory);
     };
-    let Ok(ahead) = lists_for(alloc, judging.threads) else {
+    let Ok(ahead) = lists_ahead(alloc, judging.threads) else {
         return Err(ReadFault::OutOfMemory);
     };
     let mut handed = Handed::new(alloc, judging);
@@ -79,7 +79,7 @@ pub(crate) fn read_judged<T: Threads + Wait + Sync, R: Read, A: Allocator + Copy
     }
 }
 
-// Judges the events that were handed on, and reads on: at the same time where there are several shards.
+// Judges the events that were handed on, and reads on: at the same time where there are several threads.
 fn read_next<T: Threads + Wait + Sync, R: Read, A: Allocator + Copy + Send + Sync>(
     rt: &T,
     source: &mut Source<R>,
@@ -159,7 +159,13 @@ impl<A: Allocator + Copy + Send + Sync> Intake<A> {
         ensures { ReadsOnAll R.remaining source.old source.new self.old self.new result }
     {
         while self.turns < MAX_TURNS {
-            match feed_round(rt, source, self.block.as_mut_slice(), &mut self.reader, self.ahead.as_mut_slice()) {
+            match feed_round(
+                rt,
+                source,
+                self.block.as_mut_slice(),
+                &mut self.reader,
+                self.ahead.as_mut_slice(),
+            ) {
                 Ok(Ok(true)) => self.turns += 1,
                 Ok(Ok(false)) => return Ok(Ok(false)),
                 Ok(Err(fault)) => return Ok(Err(fault)),

@@ -2,9 +2,9 @@
 ghost use Rattle.std.specs.{Prelude.{◌≡◌, ◌≢◌, [], length, None, IfOk, OnOk}, Io.KnownBytes.Keeps};
 ghost use Rattle.race_records.specs.Devices.{unread, source_reads, source_failures, one_more};
 ghost use Rattle.race_text.specs.Fed.{IsFed, IsReady};
-ghost use Rattle.race_tool.specs.Input.{ReadsInput, FeedsMore};
+ghost use Rattle.race_tool.specs.Input.{ReadsInput, FeedsMore, IsRoom};
 
-use crate::input::{BLOCK, MAX_TURNS, READ, ReadFault, blank_block, set_memory_apart};
+use crate::input::{MAX_TURNS, ReadFault, SMALL_BLOCK, blank_block, set_memory_apart};
 use race_records::Source;
 use race_text::{Fed, Grammar, TextFault};
 use std::alloc::Allocator;
@@ -20,7 +20,7 @@ pub(crate) fn read_kept<R: Read, G: Grammar, A: Allocator + Copy>(
     requires { G.stands_for G.at_start grammar [] }
     ensures { ReadsInput (G.is_text_of G.at_start) G.causes R.remaining source.old source.new result }
 {
-    let Ok(mut block) = blank_block(alloc, READ) else {
+    let Ok(mut block) = blank_block(alloc, SMALL_BLOCK) else {
         return Err(ReadFault::OutOfMemory);
     };
     let mut reader = Fed::new(alloc, grammar);
@@ -41,7 +41,7 @@ fn keep_block<R: Read, G: Grammar, A: Allocator + Copy>(
     reader: &mut Fed<G, A>,
     kept: &mut Vec<u8, A>,
 ) -> Result<Result<bool, TextFault>, ReadFault>
-    requires length { length block.old ≡ BLOCK }
+    requires block { IsRoom (length block.old) }
     requires ready { (k : G.Known) × IsReady (G.stands_for k) reader.old }
     ensures ok { IfOk result (λ answer. (k : G.Known) → FeedsMore G.causes (unread R.remaining source.old) (unread R.remaining source.new)
         (IsFed G.causes (G.stands_for k) reader.old) (IsFed G.causes (G.stands_for k) reader.new) answer) }

@@ -1,4 +1,9 @@
-//! A block of a trace, whose lines several threads read side by side.
+//! Reading a block of a trace, whose lines several threads read side by side before they are taken in order.
+ghost use Rattle.std.specs.{Prelude.{◌≡◌, ◌≢◌, ◌++◌, ◌≤◌, true, length, IsTrue, All, None, IfOk, IfErr, OnOk}, Io.KnownBytes.Keeps};
+ghost use Rattle.race_records.specs.Devices.{unread, source_reads, source_failures, one_more};
+ghost use Rattle.race_text.specs.{Ahead.AreAhead, Fault.trace_causes, Stream.{Known, StandsFor}};
+ghost use Rattle.race_text.specs.Fed as fed;
+ghost use Rattle.race_tool.specs.Input.{FeedsMore, IsBetweenFine, IsRoom};
 
 use crate::input::{ReadFault, set_memory_apart};
 use race_records::Source;
@@ -9,32 +14,45 @@ use std::thread;
 use std::thread::Threads;
 
 // Fewer bytes are read sooner than threads are started.
-const LEAST: usize = 131_072;
+const MANY: usize = 131_072;
 
-/// A list for each thread, or none where there is one.
-pub(crate) fn lists_for<A: Allocator + Copy>(
+/// A list for each of the threads but the one that judges. There is none for one thread.
+pub(crate) fn lists_ahead<A: Allocator + Copy>(
     alloc: A,
     threads: usize,
 ) -> Result<Vec<Vec<LineAhead, A>, A>, AllocError> {
     let mut lists = Vec::new(alloc);
-    if threads > 1 {
-        for _ in 1..threads {
-            lists.push(Vec::new(alloc))?;
-        }
+    for _ in 1..threads {
+        lists.push(Vec::new(alloc))?;
     }
     Ok(lists)
 }
 
-/// Reads once, and feeds what was read, as `feed_block` does.
+/// Reads once, and feeds what was read, as `feed_block` does. There are as many threads as there are lists.
 pub(crate) fn feed_round<T: Threads + Sync, R: Read, A: Allocator + Copy + Send + Sync>(
     rt: &T,
     source: &mut Source<R>,
     block: &mut [u8],
     reader: &mut Fed<EventStream<A>, A>,
     ahead: &mut [Vec<LineAhead, A>],
-) -> Result<Result<bool, TextFault>, ReadFault> {
+) -> Result<Result<bool, TextFault>, ReadFault>
+    requires block { IsRoom (length block.old) }
+    requires ready { (k : Known) × IsBetweenFine (StandsFor k) reader.old }
+    ensures ok { IfOk result (λ answer. (k : Known) → FeedsMore trace_causes (unread R.remaining source.old) (unread R.remaining source.new)
+        (fed.IsFed trace_causes (StandsFor k) reader.old) (fed.IsFed trace_causes (StandsFor k) reader.new) answer) }
+    ensures calm { result ≢ Err ReadFault.Failed
+        → source_failures source.new ≡ source_failures source.old }
+    ensures failed { result ≡ Err ReadFault.Failed
+        → source_failures source.new ≡ one_more (source_failures source.old) }
+    ensures kept { result ≡ Err ReadFault.Failed
+        → Keeps (unread R.remaining source.old) (unread R.remaining source.new) }
+    ensures ends { result ≢ Err ReadFault.Endless }
+    ensures reads { source_reads source.new ≡ one_more (source_reads source.old) }
+    ensures ready { (k : Known) → fed.IsReady (StandsFor k) reader.old → fed.IsReady (StandsFor k) reader.new }
+    ensures fine { IfOk result (λ answer. OnOk answer (reader.new.fault ≡ None)) }
+{
     match source.read(block) {
-        Ok(taken) => match set_memory_apart(feed_shared(rt, &block[..taken], reader, ahead)) {
+        Ok(taken) => match set_memory_apart(feed_many(rt, &block[..taken], reader, ahead)) {
             Ok(Ok(())) => Ok(Ok(taken > 0)),
             Ok(Err(fault)) => Ok(Err(fault)),
             Err(fault) => Err(fault),
@@ -43,44 +61,89 @@ pub(crate) fn feed_round<T: Threads + Sync, R: Read, A: Allocator + Copy + Send 
     }
 }
 
-// Feeds bytes of which the threads read lines ahead.
-fn feed_shared<T: Threads + Sync, A: Allocator + Copy + Send + Sync>(
+// Feeds bytes, whose lines threads read ahead where there are many.
+fn feed_many<T: Threads + Sync, A: Allocator + Copy + Send + Sync>(
     rt: &T,
     bytes: &[u8],
     reader: &mut Fed<EventStream<A>, A>,
     ahead: &mut [Vec<LineAhead, A>],
-) -> Result<(), TextFault> {
-    if ahead.is_empty() || bytes.len() < LEAST || !reader.lines.reader.has_events() {
+) -> Result<(), TextFault>
+    requires { (k : Known) × IsBetweenFine (StandsFor k) reader.old }
+    ensures ready { (k : Known) → fed.IsReady (StandsFor k) reader.old → fed.IsReady (StandsFor k) reader.new }
+    ensures goes_on { (k : Known) → fed.ForEachFedTo trace_causes (StandsFor k) reader.old
+        (λ before. fed.IsFed trace_causes (StandsFor k) reader.new (before ++ bytes.now)) }
+    ensures ok { IfOk result (λ _. (k : Known) → fed.ForEachFedTo trace_causes (StandsFor k) reader.old
+        (λ before. fed.ended_fault trace_causes (before ++ bytes.now) ≡ None)) }
+    ensures err { IfErr result (λ told. (k : Known) → fed.ForEachFedTo trace_causes (StandsFor k) reader.old
+        (λ before. fed.IsTold trace_causes (before ++ bytes.now) told)) }
+    ensures fine { IfOk result (λ _. reader.new.fault ≡ None) }
+{
+    if ahead.is_empty() || bytes.len() < MANY {
         return reader.feed(bytes);
     }
-    // The first line may have come in pieces.
+    // The first line may go on from the last block.
     let (first, rest) = bytes.split_at(first_line_len(bytes));
     reader.feed(first)?;
-    read_side_by_side(rt, &reader.lines.reader, rest, ahead);
-    reader.feed_ahead(rest, ahead)
+    feed_side_by_side(rt, rest, reader, ahead)
 }
 
-fn first_line_len(bytes: &[u8]) -> usize {
+// The same of bytes before which no line is open, as a rule.
+fn feed_side_by_side<T: Threads + Sync, A: Allocator + Copy + Send + Sync>(
+    rt: &T,
+    bytes: &[u8],
+    reader: &mut Fed<EventStream<A>, A>,
+    ahead: &mut [Vec<LineAhead, A>],
+) -> Result<(), TextFault>
+    requires { (k : Known) × IsBetweenFine (StandsFor k) reader.old }
+    ensures ready { (k : Known) → fed.IsReady (StandsFor k) reader.old → fed.IsReady (StandsFor k) reader.new }
+    ensures goes_on { (k : Known) → fed.ForEachFedTo trace_causes (StandsFor k) reader.old
+        (λ before. fed.IsFed trace_causes (StandsFor k) reader.new (before ++ bytes.now)) }
+    ensures ok { IfOk result (λ _. (k : Known) → fed.ForEachFedTo trace_causes (StandsFor k) reader.old
+        (λ before. fed.ended_fault trace_causes (before ++ bytes.now) ≡ None)) }
+    ensures err { IfErr result (λ told. (k : Known) → fed.ForEachFedTo trace_causes (StandsFor k) reader.old
+        (λ before. fed.IsTold trace_causes (before ++ bytes.now) told)) }
+    ensures fine { IfOk result (λ _. reader.new.fault ≡ None) }
+{
+    if !reader.lines.reader.has_events() {
+        return reader.feed(bytes);
+    }
+    read_ahead(rt, &reader.lines.reader, bytes, ahead);
+    reader.feed_ahead(bytes, ahead)
+}
+
+// How long the first line is, with its newline.
+fn first_line_len(bytes: &[u8]) -> usize
+    ensures { result ≤ length bytes.now }
+{
     match bytes.iter().position(|byte| *byte == b'\n') {
         None => bytes.len(),
         Some(at) => at + 1,
     }
 }
 
-// Each list gets the lines of its part of the bytes.
-fn read_side_by_side<T: Threads + Sync, A: Allocator + Copy + Send + Sync>(
+// Each thread reads lines of its part of the bytes into its list.
+fn read_ahead<T: Threads + Sync, A: Allocator + Copy + Send + Sync>(
     rt: &T,
     stream: &EventStream<A>,
     bytes: &[u8],
     ahead: &mut [Vec<LineAhead, A>],
-) {
-    let parts = ahead.len();
-    if parts == 0 {
+)
+    ensures { All (λ lines. AreAhead stream.now bytes.now lines.items) ahead.new }
+{
+    let threads = ahead.len();
+    if threads == 0 {
         return;
     }
-    let size = bytes.len() / parts + 1;
-    thread::for_each_mut(rt, ahead, parts, &|part: usize, lines: &mut Vec<LineAhead, A>| {
-        let from = part.saturating_mul(size);
-        stream.read_ahead(bytes, from, from.saturating_add(size), lines);
-    });
+    let size = bytes.len() / threads + 1;
+    thread::for_each_mut(
+        rt,
+        ahead,
+        threads,
+        &|part: usize, lines: &mut Vec<LineAhead, A>|
+            ensures { AreAhead stream.entry.now bytes.entry.now lines.new.items }
+        {
+            let from = part.saturating_mul(size);
+            stream.read_ahead(bytes, from, from.saturating_add(size), lines);
+        },
+    );
 }

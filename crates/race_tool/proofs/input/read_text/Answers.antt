@@ -13,7 +13,7 @@ loop-init g c = record {
   first = λ none. refl;
   reads = λ some. absurd (omega arith);
   calm = refl;
-  room = c.in-Ok.ensures;
+  room = let size = c.in-Ok.ensures in (omega (arith, size), omega (arith, size));
   ready = c.new-reader.ensures.ready;
 }
 

@@ -1,6 +1,6 @@
 use Rattle.std.proofs.Common.{◌≡◌, ◌<◌, vec_len}
 use Rattle.race_records.specs.Devices.{unread, source_reads, source_failures, more_by}
-use Rattle.race_tool.specs.{declared.input.TheConstants.BLOCK, Input.HasRead}
+use Rattle.race_tool.specs.Input.{HasRead, IsRoom}
 use Rattle.race_text.specs.Fed.{IsFed as Stands, IsReady}
 use Rattle.race_tool.proofs.input.read_text.Given as goal
 
@@ -12,6 +12,6 @@ invariant-loop g l = record {
   first : l.counter ≡ 0 → source_reads l.source ≡ source_reads l.initial.source;
   reads : 0 < l.counter → source_reads l.source ≡ more_by l.counter (source_reads l.initial.source);
   calm : source_failures l.source ≡ source_failures l.initial.source;
-  room : vec_len l.block ≡ BLOCK;
+  room : IsRoom (vec_len l.block);
   ready : IsReady (g.G.Grammar.stands_for g.G.Grammar.at_start) l.reader;
 }

@@ -1,7 +1,7 @@
 -- What was read is fed after what was handed on, turn by turn.
-use Rattle.std.proofs.Common.{false, refl, ap, ◌∙◌, arith}
+use Rattle.std.proofs.Common.{false, refl, sym, ap, subst, ◌∙◌, arith}
 use Rattle.race_shards.specs.Limits.{is_block}
-use Rattle.race_tool.specs.declared.handed.Judging.{Judging}
+use Rattle.race_tool.specs.{declared.handed.Judging.Judging, Input.IsRoom}
 use Rattle.race_tool.proofs.{IntakeLemmas.as_told, IntakeTurns.{at_start, failed_turn, faulty_turn, can_finish}}
 use Rattle.race_tool.proofs.IntakeTurns.{block_still, last_turn, can_hand_on, next_turn}
 use Rattle.race_tool.proofs.intake.read_judged.Goals as goal
@@ -15,7 +15,7 @@ loop-intake-init g c =
     let reader = c.new-reader.ensures in
     at_start g.R.Read.remaining c.args.source.now _ c.new-handed.result _ new.judge new.events
     (ap (λ (j : Judging). is_block j.block) new.judging ∙ c.requires) refl reader.stands refl
-    (record { room = c.in-Ok.ensures; some = c.wanted.ensures; ready = record { fine = reader.fine; between = reader.ready reader.fine }; limit = omega arith })
+    (record { room = subst IsRoom (sym c.in-Ok.ensures) c.block_size.ensures; some = c.wanted.ensures; ready = record { fine = reader.fine; between = reader.ready reader.fine }; limit = omega arith })
 
 pub read_next-requires-clause-ready : goal.read_next-requires-clause-ready
 read_next-requires-clause-ready g c κs within = (c.loop-intake.invariant.known, c.loop-intake.invariant.readable)

@@ -8,9 +8,9 @@ use Rattle.race_tool.proofs.handed.Handed.judge_all.Goals as goal
 pub returns-in-Ok : goal.returns-in-Ok
 returns-in-Ok g c =
     let old = c.in-Some.judge in
-    let new = c.feed_handed.new.judge in
+    let new = c.feed.new.self in
     let events = c.args.self.now.events.items in
-    let goes : GoesOn old events new = subst (λ (es : List Event). GoesOn old es new) c.as_slice.ensures.value c.in-Ok.ensures in
+    let goes : GoesOn old events new = subst (λ (es : List Event). GoesOn old es new) c.as_slice.ensures.value c.in-Ok.ensures.goes_on in
     record {
       none = c.clear.ensures.items;
       judging = refl;

@@ -7,8 +7,8 @@ use Rattle.race_tool.{specs.Streams.IsJudgeOf, proofs.StreamedLemmas.{can_take_n
 use Rattle.race_shards.specs.Judging as judging
 use Rattle.race_tool.proofs.handed.Handed.judge_rest.Goals as goal
 
-pub feed_handed-requires-clause-can : goal.feed_handed-requires-clause-can
-feed_handed-requires-clause-can g c κs within =
+pub feed-requires-after_bounds : goal.feed-requires-after_bounds
+feed-requires-after_bounds g c κs within =
     let k = c.in_ok-judge.judge in
     let begun = subst (λ (ds : DeclsState). (past : List Event) → IsJudgeOf (Some ds.declarations) c.args.self.judge past → judging.StandsFor ds.declarations k past)
     c.decls.ensures c.in_ok-judge.ensures.stands in
@@ -20,5 +20,5 @@ returns-in-Ok g c = λ known lines S.
     let k = c.in_ok-judge.judge in
     let begun = subst (λ (ds : DeclsState). (past : List Event) → IsJudgeOf (Some ds.declarations) c.args.self.judge past → judging.StandsFor ds.declarations k past)
     c.decls.ensures c.in_ok-judge.ensures.stands in
-    subst (λ (es : List Event). GoesOn k es c.feed_handed.new.judge) c.events.ensures.events c.in-Ok.ensures
+    subst (λ (es : List Event). GoesOn k es c.feed.new.self) c.events.ensures.events c.in-Ok.ensures.goes_on
     (decls_of c.args.stream.now).declarations known.past (judged_before c.args.self c.args.stream.now k c.requires.none begun known lines S)

@@ -3,8 +3,8 @@ use Rattle.std.proofs.Common.{length, refl, ap, arith}
 use Rattle.race_tool.proofs.{IntakeLemmas.{as_told, at_end, at_enough, at_failure, at_fault, at_limit, on_next, readable_now}, StreamedLemmas.some_begun}
 use Rattle.race_tool.proofs.intake.Intake.read_on.Goals as goal
 
-pub feed_block-requires-clause-ready : goal.feed_block-requires-clause-ready
-feed_block-requires-clause-ready g c = (c.requires.0, λ fine. (c.loop-self.invariant.readable c.requires.0 c.requires.1).ready.between)
+pub feed_round-requires-clause-ready : goal.feed_round-requires-clause-ready
+feed_round-requires-clause-ready g c κs within = (c.requires.0, (c.loop-self.invariant.readable c.requires.0 c.requires.1).ready)
 
 pub loop-self-init : goal.loop-self-init
 loop-self-init g c =
@@ -44,7 +44,7 @@ returns-then-events-self g c = record {
       at_enough (c.loop-self.invariant.on k) (r.ensures.ok k) (r.ensures.calm (λ e. cc))
       (readable_now is r.ensures.fine (r.ensures.ready k) before c.loop-self.invariant.room refl (omega (arith, c.loop-self-test.true)))
       is refl r.ensures.reads c.loop-self.invariant.later
-      (some_begun c.feed_block.new.reader.lines.reader (omega (arith, c.if-events-self.true, before.some, ap length c.events.ensures.events)));
+      (some_begun c.feed_round.new.reader.lines.reader (omega (arith, c.if-events-self.true, before.some, ap length c.events.ensures.events)));
 }
 
 pub loop-self-preserved : goal.loop-self-preserved

@@ -1,6 +1,6 @@
 use Rattle.std.proofs.Common.{◌≡◌, ◌≤◌, ◌-◌, vec_len}
 use Rattle.race_text.specs.Stream.{Known, StandsFor}
-use Rattle.race_tool.specs.{declared.input.TheConstants.{BLOCK, MAX_TURNS}, Intake.IsReadable}
+use Rattle.race_tool.specs.{declared.input.TheConstants.MAX_TURNS, Input.IsRoom, Intake.IsReadable}
 use Rattle.race_tool.proofs.IntakeLemmas.{IsOn}
 use Rattle.race_tool.proofs.intake.Intake.read_on.Given as goal
 
@@ -10,7 +10,7 @@ invariant-loop-self g l = record {
   on : (k : Known) → IsOn g.R.Read.remaining (StandsFor k) l.initial.source l.source l.initial.self l.self;
   readable : (k : Known) → IsReadable (StandsFor k) l.initial.self → IsReadable (StandsFor k) l.self;
   later : l.initial.self.turns ≤ l.self.turns;
-  room : vec_len l.self.block ≡ BLOCK;
+  room : IsRoom (vec_len l.self.block);
 }
 
 abbrev pub decreases-loop-self : goal.decreases-loop-self

@@ -140,7 +140,7 @@ var partEnds = map[wire.Successor]string{
 
 // judgeSegment has a segment judged. Where it is the only one of the run its report is printed as it
 // comes; else that of a clean one is a note.
-func (j *judging) judgeSegment(s *trace.Segments, command string, options trace.Options, successor wire.Successor) error {
+func (j *judging) judgeSegment(s *trace.Segments, command []string, options trace.Options, successor wire.Successor) error {
 	goesOn := successor != wire.NoSuccessor
 	file, path, done, err := j.traceOf()
 	if err != nil {
@@ -236,7 +236,7 @@ func (j *judging) traceOf() (f *os.File, path string, done func(), err error) {
 }
 
 // askBeside has one of several segments judged.
-func (j *judging) askBeside(command, path string, o *outcome) error {
+func (j *judging) askBeside(command []string, path string, o *outcome) error {
 	var report bytes.Buffer
 	if err := j.judge.ask(j.keeper, command, path, &report, j.c.notes, o); err != nil {
 		return err

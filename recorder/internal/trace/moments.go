@@ -9,7 +9,10 @@ import (
 )
 
 // A Deed is something that a goroutine did which may order it after others, or others after it.
-type Deed struct{ What, Place string }
+type Deed struct {
+	What, Place string
+	LeftOut     string // the lock's name, if the trace leaves it out
+}
 
 func (d Deed) String() string { return d.What + " at " + d.Place }
 
@@ -38,6 +41,17 @@ func (m Moment) String() string {
 		return "after " + strings.Join(held, ", ")
 	}
 	return "after " + strings.Join(held, ", ") + ", last " + m.Last.String()
+}
+
+// LeftOut are the locks of a moment that the trace leaves out.
+func (m Moment) LeftOut() []string {
+	var names []string
+	for _, d := range append(m.Locks[:len(m.Locks):len(m.Locks)], m.Last) {
+		if d.LeftOut != "" {
+			names = append(names, d.LeftOut)
+		}
+	}
+	return names
 }
 
 // holding is a lock that a goroutine holds.
@@ -138,22 +152,25 @@ func (f *follower) follow(r *wire.Record) {
 	g, place := r.Goroutine, f.table[r.Site].Place
 	switch r.Op {
 	case wire.Go:
-		f.last[g] = Deed{"go of " + f.nameOf(r.Other), place}
-		f.last[r.Other] = Deed{"its start", place}
+		f.last[g] = Deed{What: "go of " + f.nameOf(r.Other), Place: place}
+		f.last[r.Other] = Deed{What: "its start", Place: place}
 		return
 	case wire.Exit:
 		delete(f.held, g)
 		return
 	case wire.Meet:
-		f.last[g] = Deed{"send on " + f.name(r.Object), place}
-		f.last[r.Other] = Deed{"receive from " + f.name(r.Object), f.table[r.OtherSite].Place}
+		f.last[g] = Deed{What: "send on " + f.name(r.Object), Place: place}
+		f.last[r.Other] = Deed{What: "receive from " + f.name(r.Object), Place: f.table[r.OtherSite].Place}
 		return
 	}
 	what := deeds[r.Op]
 	if what == "" {
 		return
 	}
-	d := Deed{what + f.name(r.Object), place}
+	d := Deed{What: what + f.name(r.Object), Place: place}
+	if o := &f.objects[r.Object]; o.op == wire.DeclareLock && o.name == "" {
+		d.LeftOut = f.name(r.Object)
+	}
 	f.last[g] = d
 	switch r.Op {
 	case wire.Lock, wire.TryLock:

@@ -74,6 +74,9 @@ func TestMoments(t *testing.T) {
 		if i >= len(accesses) {
 			t.Fatalf("%d accesses\n%s", len(accesses), b.String())
 		}
+		if left := moments[accesses[i]].LeftOut(); (len(left) > 0) != strings.Contains(want, " of own at ") {
+			t.Errorf("access %c: left out are %v", 'A'+i, left)
+		}
 		if got := moments[accesses[i]].String(); got != want {
 			t.Errorf("access %c: %s, not %s", 'A'+i, got, want)
 		}
@@ -103,9 +106,13 @@ func TestMomentsNameLocksApart(t *testing.T) {
 	if err != nil {
 		t.Fatal(err)
 	}
-	for event, want := range map[int]string{3: "after lock of mu at a.go:2", 4: "after lock of mu_2 at a.go:2"} {
-		if got := moments[event].String(); got != want {
+	for event, name := range map[int]string{3: "mu", 4: "mu_2"} {
+		m := moments[event]
+		if got, want := m.String(), "after lock of "+name+" at a.go:2"; got != want {
 			t.Errorf("event %d: %s, not %s\n%s", event, got, want, b.String())
+		}
+		if got := m.LeftOut(); len(got) == 0 || got[0] != name {
+			t.Errorf("event %d: left out are %v, not %s", event, got, name)
 		}
 	}
 }

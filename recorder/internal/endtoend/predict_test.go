@@ -287,7 +287,7 @@ func TestPredictInSegments(t *testing.T) {
 	if status != 66 || strings.Count(out, "predicted race on total: ") != 1 || m == nil {
 		t.Fatalf("status %d\n%s%s", status, out, errs)
 	}
-	if n := strings.Count(errs, "1 races, at places that were told\n"); n == 0 || fmt.Sprint(n+1) != m[1] {
+	if n := strings.Count(errs, "1 races, at places that were reported before\n"); n == 0 || fmt.Sprint(n+1) != m[1] {
 		t.Errorf("%d segments that were told\n%s%s", n, out, errs)
 	}
 }

@@ -2,6 +2,7 @@ package trace
 
 import (
 	"io"
+	"sort"
 	"strings"
 
 	"gorace.local/recorder/internal/sites"
@@ -144,7 +145,7 @@ var deeds = map[wire.Op]string{
 	wire.Lock: "lock of ", wire.TryLock: "trylock of ", wire.ReadLock: "rlock of ", wire.TryReadLock: "tryrlock of ",
 	wire.Unlock: "unlock of ", wire.ReadUnlock: "runlock of ",
 	wire.OnceBegin: "begin of ", wire.OnceEnd: "end of ", wire.OnceDone: "end of ",
-	wire.Release: "what others come after, of ", wire.Acquire: "what it comes after, of ",
+	wire.Release: "synchronization through ", wire.Acquire: "synchronization through ",
 }
 
 // follow takes in a record.
@@ -182,12 +183,18 @@ func (f *follower) follow(r *wire.Record) {
 	}
 }
 
-// release ends a holding: the goroutine's own, or one of another, whose lock it may unlock.
+// release ends a holding: the goroutine's own, or one of another, whose lock it may unlock; of
+// several the first one's.
 func (f *follower) release(g, lock uint32, reading bool) {
 	if f.drop(g, lock, reading) {
 		return
 	}
+	var others []uint32
 	for other := range f.held {
+		others = append(others, other)
+	}
+	sort.Slice(others, func(i, j int) bool { return others[i] < others[j] })
+	for _, other := range others {
 		if f.drop(other, lock, reading) {
 			return
 		}

@@ -72,6 +72,19 @@ func (o user) useBytes(op wire.Op, p unsafe.Pointer, n, offset uintptr) {
 	}
 }
 
+// useByte is useBytes of one, which loops over buffers do with each.
+func (o user) useByte(op wire.Op, p unsafe.Pointer, offset uintptr) {
+	at := uintptr(p) & 7
+	word, bytes := unsafe.Add(p, -int(at)), uint8(1)<<at
+	sh := shardOf(word)
+	i, bits := sh.locate(word, inWord), uint64(*(*uint8)(p))
+	if sh.isApart(i, o, op, bytes) {
+		o.useAt(op, sh, sh.locate(p, wire.VarMemory), bits, whole, offset)
+	} else {
+		o.useAt(op, sh, i, bits<<(8*at), bytes, offset)
+	}
+}
+
 // useAt is readAt or wroteAt.
 func (o user) useAt(op wire.Op, sh *shard, i int, bits uint64, bytes uint8, offset uintptr) {
 	if op == wire.Write {

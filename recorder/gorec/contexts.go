@@ -2,6 +2,7 @@ package gorec
 
 import (
 	"context"
+	"reflect"
 	"time"
 
 	"gorace.local/recorder/wire"
@@ -18,8 +19,74 @@ type doneChannel struct {
 	at       *Site
 }
 
+// ownParent is a context of a type of the program's own, of which package context makes another
+// one. That package starts a goroutine, which waits for its Done, a channel of the program's, then
+// asks for its Err, and cancels the other one.
+type ownParent struct {
+	context.Context
+	channel *channel
+	s       *Site
+	child   *doneChannel // nil until it is known
+	by      *G           // who cancels the child
+}
+
+// ownParentOf is nil where package context knows when the parent is done, or nobody does.
+func ownParentOf(parent context.Context, s *Site) *ownParent {
+	if _, is := parent.(interface{ AfterFunc(func()) func() bool }); is || parent == nil || off {
+		return nil
+	}
+	done := parent.Done()
+	begin()
+	defer mu.Unlock()
+	if ch := channels[pointerTo(&done)]; done != nil && ch.isPlain() {
+		return &ownParent{Context: parent, channel: ch, s: s}
+	}
+	return nil
+}
+
+// orElse is the context of which another one is made.
+func (x *ownParent) orElse(parent context.Context) context.Context {
+	if x == nil {
+		return parent
+	}
+	return x
+}
+
+// ends has the lock: where the parent ends, it ends d.
+func (x *ownParent) ends(d *doneChannel) {
+	if x == nil {
+		return
+	}
+	if x.child = d; x.by != nil {
+		d.cancels(x.by, x.s)
+	}
+}
+
+// Err is asked for by who has found the parent done, and is about to cancel the child.
+func (x *ownParent) Err() error {
+	g := current(x.s)
+	begin()
+	if x.channel.closed {
+		x.channel.enter()
+		g.note(wire.ReceiveClosed, x.channel.id, x.s)
+		if x.by = g; x.child != nil {
+			x.child.cancels(g, x.s)
+		}
+	}
+	mu.Unlock()
+	return x.Context.Err()
+}
+
+// String is what package context calls the parent in the name of the child.
+func (x *ownParent) String() string {
+	if named, is := x.Context.(interface{ String() string }); is {
+		return named.String()
+	}
+	return reflect.TypeOf(x.Context).String()
+}
+
 // newDone follows a context that the program makes; nil is none.
-func newDone(parent, ctx context.Context, deadline bool, s *Site) *doneChannel {
+func newDone(parent, ctx context.Context, own *ownParent, deadline bool, s *Site) *doneChannel {
 	above, done := parent.Done(), ctx.Done()
 	g := current(s)
 	begin()
@@ -31,6 +98,7 @@ func newDone(parent, ctx context.Context, deadline bool, s *Site) *doneChannel {
 	d := &doneChannel{channel: ch}
 	ch.done = d
 	channels[ch.p] = ch
+	own.ends(d)
 	if deadline {
 		d.timer = newGoroutine()
 		d.timer.site, d.timer.stack = s.ID, stackNumber()
@@ -104,11 +172,12 @@ func (d *doneChannel) canceler(f context.CancelFunc, s *Site) context.CancelFunc
 
 // WithCancel is that of package context.
 func WithCancel(parent context.Context, s *Site) (context.Context, context.CancelFunc) {
-	ctx, cancel := context.WithCancel(parent)
+	own := ownParentOf(parent, s)
+	ctx, cancel := context.WithCancel(own.orElse(parent))
 	if off {
 		return ctx, cancel
 	}
-	return ctx, newDone(parent, ctx, false, s).canceler(cancel, s)
+	return ctx, newDone(parent, ctx, own, false, s).canceler(cancel, s)
 }
 
 // WithTimeout is that of package context.
@@ -118,11 +187,12 @@ func WithTimeout(parent context.Context, d time.Duration, s *Site) (context.Cont
 
 // WithDeadline is that of package context.
 func WithDeadline(parent context.Context, at time.Time, s *Site) (context.Context, context.CancelFunc) {
-	ctx, cancel := context.WithDeadline(parent, at)
+	own := ownParentOf(parent, s)
+	ctx, cancel := context.WithDeadline(own.orElse(parent), at)
 	if off {
 		return ctx, cancel
 	}
-	return ctx, newDone(parent, ctx, true, s).canceler(cancel, s)
+	return ctx, newDone(parent, ctx, own, true, s).canceler(cancel, s)
 }
 
 // ContextAt is a context whose Err is asked for: an error comes behind what ended it.

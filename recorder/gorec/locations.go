@@ -118,7 +118,7 @@ func (g *G) at(s *Site) user { return user{g, s, stackNumber()} }
 // read has the locks of what is read.
 func (o user) read(p unsafe.Pointer, size, offset uintptr) {
 	if size == 1 {
-		o.readBytes(p, 1, offset)
+		o.useByte(wire.Read, p, offset)
 		return
 	}
 	sh := shardOf(p)
@@ -154,7 +154,7 @@ func (l *location) hold(bits uint64, bytes uint8) {
 // record; repeats says so.
 func (o user) wrote(p unsafe.Pointer, size, offset uintptr) (repeats bool) {
 	if size == 1 {
-		o.wroteBytes(p, 1, offset)
+		o.useByte(wire.Write, p, offset)
 		return false
 	}
 	sh := shardOf(p)

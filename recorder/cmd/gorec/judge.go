@@ -71,7 +71,7 @@ func judgeWords(command string) []string {
 
 // ask has a command judge a trace. The report is written, and stands in the outcome, with its
 // status. Where a signal for the program has ended the judge too, it is asked once more.
-func (j *judge) ask(k *process.Keeper, command, path string, to, notes io.Writer, o *outcome) error {
+func (j *judge) ask(k *process.Keeper, command []string, path string, to, notes io.Writer, o *outcome) error {
 	interrupted := k.Interrupted()
 	err := j.askOnce(k, command, path, to, notes, o)
 	if err != nil && !interrupted && k.Interrupted() {
@@ -80,14 +80,15 @@ func (j *judge) ask(k *process.Keeper, command, path string, to, notes io.Writer
 	return err
 }
 
-func (j *judge) askOnce(k *process.Keeper, command, path string, to, notes io.Writer, o *outcome) error {
+func (j *judge) askOnce(k *process.Keeper, command []string, path string, to, notes io.Writer, o *outcome) error {
 	in, err := os.Open(path)
 	if err != nil {
 		return err
 	}
 	defer in.Close()
 	var output bytes.Buffer
-	cmd := exec.Command(j.words[0], append(j.words[1:], command)...)
+	words := append(j.words[1:len(j.words):len(j.words)], command...)
+	cmd := exec.Command(j.words[0], words...)
 	cmd.Stdin, cmd.Stdout, cmd.Stderr = in, &output, notes
 	err = k.Run(cmd)
 	o.read(output.String())

@@ -77,7 +77,9 @@ races: 3
 		5: {Locks: []trace.Deed{{What: "lock of mu", Place: "a.go:2"}}, Last: trace.Deed{What: "lock of mu", Place: "a.go:2"}},
 		6: {Locks: []trace.Deed{{What: "lock of mu", Place: "a.go:2"}}, Last: trace.Deed{What: "lock of mu", Place: "a.go:2"}},
 		8: {Last: trace.Deed{What: "go of g2", Place: "a.go:6"}}, 9: {Last: trace.Deed{What: "go of g2", Place: "a.go:6"}},
-		20: {Last: trace.Deed{What: "unlock of mu", Place: "a.go:4"}}, 21: {},
+		20: {Last: trace.Deed{What: "unlock of own", Place: "a.go:4", LeftOut: "own"}},
+		21: {Locks: []trace.Deed{{What: "lock of own", Place: "a.go:4", LeftOut: "own"}, {What: "lock of mine", Place: "a.go:4", LeftOut: "mine"}},
+			Last: trace.Deed{What: "lock of mine", Place: "a.go:4", LeftOut: "mine"}},
 	}
 	var b strings.Builder
 	o.explain(&b)
@@ -87,8 +89,9 @@ races: 3
      1  read at a.go:4, write at a.go:5
 g1's write of x: after lock of mu at a.go:2
 main's read of x: without a lock, after go of g2 at a.go:6
-g1's read of y: without a lock, after unlock of mu at a.go:4
-g2's write of y: without a lock
+g1's read of y: without a lock, after unlock of own at a.go:4
+g2's write of y: after lock of own at a.go:4, lock of mine at a.go:4
+not in the trace, since one goroutine alone used each: own, mine
 g1 was started by main at a.go:1
 g1 was started by main at a.go:2
 g2 was started by g1 at a.go:6

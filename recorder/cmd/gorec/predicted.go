@@ -55,17 +55,23 @@ func (r *race) inAnotherOrder() string {
 
 // judgedBy is the judge's command for a segment, and why it isn't the one that predicts, if that is
 // wanted: what the trace leaves out may be what a goroutine goes by.
-func (j *judging) judgedBy(hasAll bool, forgotten int) (command, why string) {
+func (j *judging) judgedBy(hasAll bool, forgotten int) (command []string, why string) {
+	check := []string{"check"}
 	switch {
 	case !j.predict:
-		return "check", ""
+		return check, ""
 	case !hasAll:
-		return "check", "there are more variables than one trace has names for"
+		return check, "there are more variables than one trace has names for"
 	case forgotten > 0:
-		return "check", "there was no room for all variables"
+		return check, "there was no room for all variables"
+	case j.turned:
+		return []string{"predict", turnedFlag}, ""
 	}
-	return "predict", ""
+	return []string{"predict"}, ""
 }
+
+// turnedFlag is the judge's flag for orders in which critical sections and messages change places.
+const turnedFlag = "--turned"
 
 // tellDoubts tells what was judged in the recorded order alone, though others are wanted too, and
 // where a prediction may be false.
@@ -88,6 +94,10 @@ func (j *judging) tellDoubts() {
 }
 
 // drawsPredicted is the command that draws the other order in which a variable races.
-func (j *judge) drawsPredicted(variable, trace string) string {
-	return fmt.Sprintf("%s predict %s < %s | %s draw %s", j.shown, variable, trace, j.shown, variable)
+func (s *session) drawsPredicted(variable, trace string) string {
+	of := variable
+	if s.turned {
+		of += " " + turnedFlag
+	}
+	return fmt.Sprintf("%s predict %s < %s | %s draw %s", s.judge.shown, of, trace, s.judge.shown, variable)
 }

@@ -58,17 +58,19 @@ predicted: 2
 // goroutines go by.
 func TestJudgedBy(t *testing.T) {
 	for _, c := range []struct {
-		predict, hasAll bool
-		forgotten       int
-		want            string
+		predict, turned, hasAll bool
+		forgotten               int
+		want                    string
 	}{
-		{false, false, 0, "check"},
-		{true, true, 0, "predict"},
-		{true, false, 0, "check: there are more variables than one trace has names for"},
-		{true, true, 2, "check: there was no room for all variables"},
+		{false, false, false, 0, "check"},
+		{true, false, true, 0, "predict"},
+		{true, true, true, 0, "predict --turned"},
+		{true, true, false, 0, "check: there are more variables than one trace has names for"},
+		{true, false, true, 2, "check: there was no room for all variables"},
 	} {
-		j := &judging{session: &session{recording: &recording{predict: c.predict}}}
-		got, why := j.judgedBy(c.hasAll, c.forgotten)
+		j := &judging{session: &session{recording: &recording{predict: c.predict, turned: c.turned}}}
+		words, why := j.judgedBy(c.hasAll, c.forgotten)
+		got := strings.Join(words, " ")
 		if why != "" {
 			got += ": " + why
 		}

@@ -24,7 +24,7 @@ type recording struct {
 	out, log, judge, seed string
 	format, runs, records int
 	all, json, stacks     bool
-	predict               bool
+	predict, turned       bool
 }
 
 func (r *recording) define(flags *flag.FlagSet) {
@@ -39,6 +39,7 @@ func (r *recording) define(flags *flag.FlagSet) {
 	flags.IntVar(&r.records, "records", 0, "judge the log each `N` records, up to 20,971,520, while the program goes on; 0: 524,288, or 4,194,304 of tests")
 	flags.BoolVar(&r.stacks, "stacks", true, "record the calls that led to each access")
 	flags.BoolVar(&r.predict, "predict", false, "tell races of other orders of the run too, with status 66; writes version 2")
+	flags.BoolVar(&r.turned, "turned", false, "with -predict: critical sections and messages may change places too")
 	flags.BoolVar(&r.json, "json", false, "write lines of JSON: output, races and verdicts")
 }
 
@@ -61,6 +62,8 @@ func (r *recording) check() error {
 		return errors.New("GOREC_FORMAT=" + version + ": a trace has version 1 or 2")
 	case r.predict && r.format == 1:
 		return errors.New("-predict: a trace of version 1 doesn't say which TryLock failed; leave out -format 1")
+	case r.turned && !r.predict:
+		return errors.New("-turned goes with -predict")
 	case r.records != 0 && (r.records < fewestRecords || r.records > mostRecords):
 		return fmt.Errorf("-records %d: a log has from 1,024 to 20,971,520", r.records)
 	case r.runs < 1:

@@ -93,8 +93,9 @@ func (o *outcome) events() map[int]bool {
 func (o *outcome) all() []race { return append(o.races[:len(o.races):len(o.races)], o.predicted...) }
 
 // holdings tells what each of the two of a race held and last synchronized by. Of races at the
-// same places the first is told.
+// same places the first is told. What the judge tells of a trace has no lock that the trace leaves out.
 func holdings(w io.Writer, races []race, moments map[int]trace.Moment, told map[string]bool) {
+	var leftOut []string
 	for _, r := range races {
 		lines, places := "", ""
 		for _, a := range []access{r.First, r.Second} {
@@ -103,10 +104,22 @@ func holdings(w io.Writer, races []race, moments map[int]trace.Moment, told map[
 				places += a.Kind + a.Place + m.String()
 			}
 		}
-		if !told[places] {
-			told[places] = true
-			io.WriteString(w, lines)
+		if told[places] {
+			continue
 		}
+		told[places] = true
+		io.WriteString(w, lines)
+		for _, a := range []access{r.First, r.Second} {
+			for _, lock := range moments[a.Event].LeftOut() {
+				if !told["lock "+lock] {
+					told["lock "+lock] = true
+					leftOut = append(leftOut, lock)
+				}
+			}
+		}
+	}
+	if len(leftOut) > 0 {
+		fmt.Fprintf(w, "not in the trace, since one goroutine alone used each: %s\n", strings.Join(leftOut, ", "))
 	}
 }
 

@@ -14,7 +14,7 @@ var runCommand = command{
 	name:  "run",
 	words: "[flags] PACKAGE [ARGUMENTS]",
 	about: "runs a program, and has its trace judged",
-	more: `The package may be named by its files. What stands behind it goes to the program.
+	more: `The package may be named by its files. What follows it goes to the program.
 ` + statuses,
 	prepare: func(flags *flag.FlagSet) func(*process.Keeper, []string) (int, error) {
 		var r recording

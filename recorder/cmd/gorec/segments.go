@@ -140,7 +140,7 @@ var partEnds = map[wire.Successor]string{
 
 // judgeSegment has a segment judged. Where it is the only one of the run its report is printed as it
 // comes; else that of a clean one is a note.
-func (j *judging) judgeSegment(s *trace.Segments, command string, options trace.Options, successor wire.Successor) error {
+func (j *judging) judgeSegment(s *trace.Segments, command []string, options trace.Options, successor wire.Successor) error {
 	goesOn := successor != wire.NoSuccessor
 	file, path, done, err := j.traceOf()
 	if err != nil {
@@ -236,7 +236,7 @@ func (j *judging) traceOf() (f *os.File, path string, done func(), err error) {
 }
 
 // askBeside has one of several segments judged.
-func (j *judging) askBeside(command, path string, o *outcome) error {
+func (j *judging) askBeside(command []string, path string, o *outcome) error {
 	var report bytes.Buffer
 	if err := j.judge.ask(j.keeper, command, path, &report, j.c.notes, o); err != nil {
 		return err
@@ -247,7 +247,7 @@ func (j *judging) askBeside(command, path string, o *outcome) error {
 	case o.status == 0:
 		fmt.Fprintf(j.c.notes, "gorec: segment %d: %s\n", j.segments, first)
 	case len(o.all()) > 0 && !j.isNew(o):
-		fmt.Fprintf(j.c.notes, "gorec: segment %d: %d races, at places that were told\n", j.segments, len(o.all()))
+		fmt.Fprintf(j.c.notes, "gorec: segment %d: %d races, at places that were reported before\n", j.segments, len(o.all()))
 	default:
 		_, err := report.WriteTo(j.c.out)
 		return err
@@ -287,7 +287,7 @@ func (j *judging) add(o *outcome, followed bool) {
 func (j *judging) tell() {
 	if j.forgotten > 0 {
 		fmt.Fprintf(j.c.out, "gorec: there was no room for all variables: %d times one was forgotten that one goroutine alone had used; "+
-			"with what that did no race is told\n", j.forgotten)
+			"races with what that did are missed\n", j.forgotten)
 	}
 	j.tellDoubts()
 	if j.segments == 1 {
@@ -306,7 +306,7 @@ func (j *judging) tell() {
 		fmt.Fprintf(j.c.out, "gorec: judged in %d traces, since there are more variables than one has names for\n", j.segments)
 		return
 	}
-	fmt.Fprintf(j.c.out, "gorec: judged in %d segments, %d of them with races; of what stands in different ones no race is told; "+
+	fmt.Fprintf(j.c.out, "gorec: judged in %d segments, %d of them with races; races of accesses in different ones are missed; "+
 		"they ended with %s\n", j.segments, j.racing, strings.Join(reasons, ", "))
 }
 

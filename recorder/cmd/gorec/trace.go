@@ -15,7 +15,7 @@ import (
 var traceCommand = command{
 	name:  "trace",
 	words: "[flags] LOG SITES",
-	about: "writes the trace of a log; where it is cut off is told on standard error",
+	about: "writes the trace of a log, and on standard error where that is cut off",
 	prepare: func(flags *flag.FlagSet) func(*process.Keeper, []string) (int, error) {
 		all := flags.Bool("all", false, "keep what one goroutine alone uses")
 		format := flags.Int("format", 0, "the `version` of the trace, 1 or 2; without it that of the log")

@@ -138,7 +138,7 @@ func (s *session) tellTrace(w io.Writer, o *outcome) {
 			fmt.Fprintf(w, "gorec: to see why: %s draw %s < %s\n", s.judge.shown, o.races[0].Variable, shown(o.trace))
 		}
 		if len(o.predicted) > 0 {
-			fmt.Fprintf(w, "gorec: to see the other order: %s\n", s.judge.drawsPredicted(o.predicted[0].Variable, shown(o.trace)))
+			fmt.Fprintf(w, "gorec: to see the other order: %s\n", s.drawsPredicted(o.predicted[0].Variable, shown(o.trace)))
 		}
 	default:
 		fmt.Fprintf(w, "gorec: the trace: %s\n", shown(o.trace))

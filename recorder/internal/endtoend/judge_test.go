@@ -85,7 +85,7 @@ func askAll(t *testing.T, command string, traces map[string]string) map[string]s
 		if err != nil {
 			t.Fatal(err)
 		}
-		cmd := exec.Command(words[0], append(words[1:], command)...)
+		cmd := exec.Command(words[0], append(words[1:], strings.Fields(command)...)...)
 		cmd.Stdin = in
 		out, err := cmd.Output()
 		in.Close()

@@ -18,25 +18,34 @@ const hiding = root + "/testdata/predict"
 
 var told = regexp.MustCompile(`(?m)^(?:predicted )?race on (\S+): `)
 
-// TestPredictions records the programs at each seed, and has other orders looked for. No program
-// without a race is told of, and of one with a race no other variable; of the racy runs at least
-// 85 in 100 are told, most of them by a prediction.
+// TestPredictions records the programs at each seed, and has other orders looked for, then also those
+// in which critical sections and messages change places. No program without a race is told of, and of
+// one with a race no other variable; of the racy runs at least 85 in 100 are told, most of them by a
+// prediction.
 func TestPredictions(t *testing.T) {
 	requireJudge(t)
 	t.Parallel()
 	traces, hides := recordHiding(t)
+	lookForOtherOrders(t, "predict", traces, hides)
+	if *judgeFlag != "unproved" { // which takes minutes each time
+		lookForOtherOrders(t, "predict --turned", traces, hides)
+	}
+}
+
+func lookForOtherOrders(t *testing.T, command string, traces map[string]string, hides map[string][]string) {
+	t.Helper()
 	runs, found, predictions := 0, 0, 0
 	var missed []string
-	for run, report := range askAll(t, "predict", traces) {
+	for run, report := range askAll(t, command, traces) {
 		name, _, _ := strings.Cut(run, ".")
 		names := told.FindAllStringSubmatch(report, -1)
 		for _, m := range names {
 			if entry(hides[name], m[1]) == "" {
-				t.Errorf("%s: %s is told\n%s", run, m[1], report)
+				t.Errorf("%s, %s: %s is told\n%s", command, run, m[1], report)
 			}
 		}
 		if !strings.Contains(report, "\npredicted: ") {
-			t.Errorf("%s: nothing was predicted\n%s", run, report)
+			t.Errorf("%s, %s: nothing was predicted\n%s", command, run, report)
 		}
 		if len(hides[name]) == 0 {
 			continue
@@ -51,9 +60,9 @@ func TestPredictions(t *testing.T) {
 		}
 		found++
 	}
-	t.Logf("of %d racy runs %d are told, %d by predictions; not told: %v", runs, found, predictions, missed)
+	t.Logf("%s: of %d racy runs %d are told, %d by predictions; not told: %v", command, runs, found, predictions, missed)
 	if found*100 < runs*85 || predictions*2 < runs {
-		t.Errorf("of %d racy runs %d are told, %d by predictions; not told: %v", runs, found, predictions, missed)
+		t.Errorf("%s: of %d racy runs %d are told, %d by predictions; not told: %v", command, runs, found, predictions, missed)
 	}
 }
 
@@ -152,6 +161,19 @@ gorec: to see the other order: .* predict seen < .*run.gotrace \| .* draw seen\n
 	}
 }
 
+// TestTurnedIsPassedOn: the judge itself is asked for orders in which critical sections change places.
+func TestTurnedIsPassedOn(t *testing.T) {
+	t.Parallel()
+	judge := filepath.Join(t.TempDir(), "judge")
+	if err := os.WriteFile(judge, []byte("#!/bin/sh\ncat >/dev/null\necho \"clean: by $*\"\n"), 0o755); err != nil {
+		t.Fatal(err)
+	}
+	out, errs, status := runIn(t, hiding, "run", "-predict", "-turned", "-gorace", judge, "./counted")
+	if status != 0 || out != "clean: by predict --turned\n" {
+		t.Errorf("status %d\n%s%s", status, out, errs)
+	}
+}
+
 // predictor is a judge that predicts a race on a variable where a trace has two writes of it, and
 // says so only if it is asked to predict.
 func predictor(t *testing.T, variable string) string {
@@ -193,7 +215,9 @@ gorec: to see the other order: \S+ predict total < \S+ \| \S+ draw total
 $`},
 		{[]string{"-o", trace, "./beforelock"}, 0, `^clean: by check\n$`},
 		{[]string{"-predict", "-o", trace, "./counted"}, 0, `^clean: \d+ events, 0 accesses\npredicted: 0\n$`},
+		{[]string{"-predict", "-turned", "-o", trace, "./beforelock"}, 66, `\ngorec: to see the other order: \S+ predict total --turned < \S+ \| \S+ draw total\n$`},
 		{[]string{"-predict", "-format", "1", "./beforelock"}, 3, `^$`},
+		{[]string{"-turned", "./beforelock"}, 3, `^$`},
 	} {
 		out, errs, status := runIn(t, hiding, append([]string{"run", "-seed", "1", "-gorace", judge}, c.args...)...)
 		if status != c.status || !regexp.MustCompile(c.out).MatchString(out) {
@@ -263,7 +287,7 @@ func TestPredictInSegments(t *testing.T) {
 	if status != 66 || strings.Count(out, "predicted race on total: ") != 1 || m == nil {
 		t.Fatalf("status %d\n%s%s", status, out, errs)
 	}
-	if n := strings.Count(errs, "1 races, at places that were told\n"); n == 0 || fmt.Sprint(n+1) != m[1] {
+	if n := strings.Count(errs, "1 races, at places that were reported before\n"); n == 0 || fmt.Sprint(n+1) != m[1] {
 		t.Errorf("%d segments that were told\n%s%s", n, out, errs)
 	}
 }

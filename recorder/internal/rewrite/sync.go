@@ -59,7 +59,7 @@ func (r *rewriter) syncMethod(e *ast.SelectorExpr, m *types.Func) bool {
 		path, _ := r.promotion(e)
 		r.use(e, known.use, r.site(e, r.name(e.X)+strings.ReplaceAll(path, ".", "_")))
 	case ofSync(m):
-		r.refuse(e, m.FullName()+" isn't recorded, and what it orders would be told as races",
+		r.refuse(e, m.FullName()+" isn't recorded, and what it orders would be reported as races",
 			"use a method of the README's table")
 		r.plainReceiver(e, m)
 	case isLockerMethod(m):
@@ -134,7 +134,7 @@ func (r *rewriter) functionValue(e ast.Expr, f *types.Func) {
 	case f.Pkg().Path() == "sync/atomic":
 		r.atomicFunction(e, f, "")
 	case f.Pkg().Path() == "sync" && f.Name() != "NewCond":
-		r.refuse(e, f.FullName()+" isn't recorded here, and what it orders would be told as races",
+		r.refuse(e, f.FullName()+" isn't recorded here, and what it orders would be reported as races",
 			"call it without types in brackets, or use a sync.Once")
 	}
 }

@@ -2,6 +2,7 @@ package trace
 
 import (
 	"io"
+	"sort"
 	"strings"
 
 	"gorace.local/recorder/internal/sites"
@@ -9,7 +10,10 @@ import (
 )
 
 // A Deed is something that a goroutine did which may order it after others, or others after it.
-type Deed struct{ What, Place string }
+type Deed struct {
+	What, Place string
+	LeftOut     string // the lock's name, if the trace leaves it out
+}
 
 func (d Deed) String() string { return d.What + " at " + d.Place }
 
@@ -38,6 +42,17 @@ func (m Moment) String() string {
 		return "after " + strings.Join(held, ", ")
 	}
 	return "after " + strings.Join(held, ", ") + ", last " + m.Last.String()
+}
+
+// LeftOut are the locks of a moment that the trace leaves out.
+func (m Moment) LeftOut() []string {
+	var names []string
+	for _, d := range append(m.Locks[:len(m.Locks):len(m.Locks)], m.Last) {
+		if d.LeftOut != "" {
+			names = append(names, d.LeftOut)
+		}
+	}
+	return names
 }
 
 // holding is a lock that a goroutine holds.
@@ -130,7 +145,7 @@ var deeds = map[wire.Op]string{
 	wire.Lock: "lock of ", wire.TryLock: "trylock of ", wire.ReadLock: "rlock of ", wire.TryReadLock: "tryrlock of ",
 	wire.Unlock: "unlock of ", wire.ReadUnlock: "runlock of ",
 	wire.OnceBegin: "begin of ", wire.OnceEnd: "end of ", wire.OnceDone: "end of ",
-	wire.Release: "what others come after, of ", wire.Acquire: "what it comes after, of ",
+	wire.Release: "synchronization through ", wire.Acquire: "synchronization through ",
 }
 
 // follow takes in a record.
@@ -138,22 +153,25 @@ func (f *follower) follow(r *wire.Record) {
 	g, place := r.Goroutine, f.table[r.Site].Place
 	switch r.Op {
 	case wire.Go:
-		f.last[g] = Deed{"go of " + f.nameOf(r.Other), place}
-		f.last[r.Other] = Deed{"its start", place}
+		f.last[g] = Deed{What: "go of " + f.nameOf(r.Other), Place: place}
+		f.last[r.Other] = Deed{What: "its start", Place: place}
 		return
 	case wire.Exit:
 		delete(f.held, g)
 		return
 	case wire.Meet:
-		f.last[g] = Deed{"send on " + f.name(r.Object), place}
-		f.last[r.Other] = Deed{"receive from " + f.name(r.Object), f.table[r.OtherSite].Place}
+		f.last[g] = Deed{What: "send on " + f.name(r.Object), Place: place}
+		f.last[r.Other] = Deed{What: "receive from " + f.name(r.Object), Place: f.table[r.OtherSite].Place}
 		return
 	}
 	what := deeds[r.Op]
 	if what == "" {
 		return
 	}
-	d := Deed{what + f.name(r.Object), place}
+	d := Deed{What: what + f.name(r.Object), Place: place}
+	if o := &f.objects[r.Object]; o.op == wire.DeclareLock && o.name == "" {
+		d.LeftOut = f.name(r.Object)
+	}
 	f.last[g] = d
 	switch r.Op {
 	case wire.Lock, wire.TryLock:
@@ -165,12 +183,18 @@ func (f *follower) follow(r *wire.Record) {
 	}
 }
 
-// release ends a holding: the goroutine's own, or one of another, whose lock it may unlock.
+// release ends a holding: the goroutine's own, or one of another, whose lock it may unlock; of
+// several the first one's.
 func (f *follower) release(g, lock uint32, reading bool) {
 	if f.drop(g, lock, reading) {
 		return
 	}
+	var others []uint32
 	for other := range f.held {
+		others = append(others, other)
+	}
+	sort.Slice(others, func(i, j int) bool { return others[i] < others[j] })
+	for _, other := range others {
 		if f.drop(other, lock, reading) {
 			return
 		}

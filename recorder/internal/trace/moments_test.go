@@ -68,11 +68,14 @@ func TestMoments(t *testing.T) {
 		"after rlock of mu at mu.go:1",
 		"after rlock of mu at mu.go:1, lock of own at own.go:1",
 		"after rlock of mu at mu.go:1, last receive from c at c.go:2",
-		"without a lock, after what it comes after, of group at group.go:2",
-		"without a lock, after what others come after, of group at group.go:1",
+		"without a lock, after synchronization through group at group.go:2",
+		"without a lock, after synchronization through group at group.go:1",
 	} {
 		if i >= len(accesses) {
 			t.Fatalf("%d accesses\n%s", len(accesses), b.String())
+		}
+		if left := moments[accesses[i]].LeftOut(); (len(left) > 0) != strings.Contains(want, " of own at ") {
+			t.Errorf("access %c: left out are %v", 'A'+i, left)
 		}
 		if got := moments[accesses[i]].String(); got != want {
 			t.Errorf("access %c: %s, not %s", 'A'+i, got, want)
@@ -103,9 +106,40 @@ func TestMomentsNameLocksApart(t *testing.T) {
 	if err != nil {
 		t.Fatal(err)
 	}
-	for event, want := range map[int]string{3: "after lock of mu at a.go:2", 4: "after lock of mu_2 at a.go:2"} {
-		if got := moments[event].String(); got != want {
+	for event, name := range map[int]string{3: "mu", 4: "mu_2"} {
+		m := moments[event]
+		if got, want := m.String(), "after lock of "+name+" at a.go:2"; got != want {
 			t.Errorf("event %d: %s, not %s\n%s", event, got, want, b.String())
+		}
+		if got := m.LeftOut(); len(got) == 0 || got[0] != name {
+			t.Errorf("event %d: left out are %v, not %s", event, got, name)
+		}
+	}
+}
+
+// TestMomentsOfAnUnlockByAnother: where one goroutine unlocks what others have read-locked, the first
+// of these holds it no longer, each time.
+func TestMomentsOfAnUnlockByAnother(t *testing.T) {
+	table := sites.Table{{Place: "-"}, {Name: "x", Place: "a.go:1"}, {Name: "mu", Place: "a.go:2"}, {Place: "a.go:3"}}
+	const x, mu, start = 1, 2, 3
+	records := []wire.Record{
+		{Op: wire.Go, Other: 1, Site: start},
+		{Op: wire.Go, Other: 2, Site: start},
+		{Op: wire.DeclareVar, Object: 1, Site: x},
+		{Op: wire.DeclareLock, Object: 2, Site: mu, Kind: 1},
+		{Op: wire.ReadLock, Object: 2, Goroutine: 2, Site: mu},
+		{Op: wire.ReadLock, Object: 2, Goroutine: 1, Site: mu},
+		{Op: wire.ReadUnlock, Object: 2, Site: mu},
+		{Op: wire.Write, Object: 1, Goroutine: 1, Site: x, Value: 1},
+		{Op: wire.Write, Object: 1, Goroutine: 2, Site: x, Value: 2},
+	}
+	for round := 0; round < 20; round++ {
+		moments, err := Moments(records, table, Options{Version: 1}, map[int]bool{6: true, 7: true})
+		if err != nil {
+			t.Fatal(err)
+		}
+		if a, b := moments[6].String(), moments[7].String(); a != "without a lock, after rlock of mu at a.go:2" || b != "after rlock of mu at a.go:2" {
+			t.Fatalf("round %d: %s; %s", round, a, b)
 		}
 	}
 }

@@ -202,11 +202,11 @@ func (s *Summary) Losses() string {
 		one, more string
 		what      string
 	}{
-		{s.unseen, "read", "reads", "found writes by code that isn't recorded, whose races aren't told"},
+		{s.unseen, "read", "reads", "found writes by code that isn't recorded, whose races are missed"},
 		{s.losses[wire.LostGoroutine], "goroutine was", "goroutines were", "started by code that isn't recorded, so races with them may be missed"},
 		{s.losses[wire.Losses], "test", "tests", "began in package testing, which isn't recorded"},
-		{s.losses[wire.LostChannel], "channel is", "channels are", "used by code that isn't recorded, so races may be told that they order"},
-		{s.losses[wire.LostLocker], "locker is", "lockers are", "of types that aren't recorded, so races may be told that they order"},
+		{s.losses[wire.LostChannel], "channel is", "channels are", "used by code that isn't recorded, so reports may be false"},
+		{s.losses[wire.LostLocker], "locker is", "lockers are", "of types that aren't recorded, so reports may be false"},
 	} {
 		switch n := total(l.counts); n {
 		case 0:

@@ -1,4 +1,5 @@
 mod ListLemmas
+mod LaterLemmas
 mod TreeLemmas
 mod NextLemmas
 mod OneStep
@@ -10,5 +11,7 @@ mod CountLemmas
 mod ElementLemmas
 mod TallyLemmas
 mod RacyLemmas
+mod StandingLemmas
+mod BadEndLemmas
 mod NotingLemmas
 mod EndLemmas

@@ -33,12 +33,14 @@ module _ {A : Type 0} (before : Explored A) (picks : List ℕ) (r : RecordingSta
   -- so many of them are
   pub record IsNoting (n : ℕ) (now : Explored A) : Type 0 where
     pub same : HasSameCounts before now
+    pub bad : now.bad.items ≡ before.bad.items
     pub few : All (λ v. v.runs ≤ before.runs + n) now.racy.items
     pub noted : (seen : List Looked) → AreRacy seen before.racy.items → AreNoted seen racy_run (Races (map race_of (take n races))) now.racy.items
 
   pub noting_begins : All (λ v. v.runs ≤ before.runs) before.racy.items → IsNoting 0 before
   noting_begins few = record {
     same = record { runs = refl; clean = refl; races = refl; deadlocks = refl; faults = refl; whole = refl };
+    bad = refl;
     few = All-weaker (λ (v : RacyVariable A). v.runs ≤ before.runs) (λ (v : RacyVariable A). v.runs ≤ before.runs + 0) (λ v below. omega (arith, below)) before.racy.items
         few;
     noted = λ seen are. noted_first seen racy_run (Races (map race_of (take 0 races))) before.racy.items (λ x. refl) are;
@@ -59,10 +61,11 @@ module _ {A : Type 0} (before : Explored A) (picks : List ℕ) (r : RecordingSta
     race_accesses = let conflict = (right.2.each n (race_of race) there).race.conflict in (conflict.1, conflict.2)
 
     -- and one more is
-    pub noting_goes_on : (now next : Explored A) → IsNoting n now → HasSameCounts now next
+    pub noting_goes_on : (now next : Explored A) → IsNoting n now → HasSameCounts now next → next.bad.items ≡ now.bad.items
         → CountsRace r.events picks (race_of race) now.racy.items next.racy.items → IsNoting (n + 1) next
-    noting_goes_on now next noting same counts = record {
+    noting_goes_on now next noting same ends counts = record {
       same = same_counts_on before now next noting.same same;
+      bad = ends ∙ noting.bad;
       few = subst (λ m. All (λ (v : RacyVariable A). v.runs ≤ m) next.racy.items) one_more
           (racy_bounded r.events picks (race_of race) now.racy.items next.racy.items (before.runs + n) counts noting.few);
       noted = λ seen are. subst (λ rs. AreNoted seen racy_run (Races rs) next.racy.items) (sym longer)

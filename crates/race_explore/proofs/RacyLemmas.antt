@@ -1,5 +1,6 @@
 -- What is told of the variables with races once one run more was seen.
-use Rattle.std.proofs.Common.{ℕ, zero, suc, ◌≡◌, ◌⊎◌, ◌<◌, ◌≤◌, ◌+◌, ◌++◌, ◌==◌, ◌||◌, Bool, true, false, cond, List, [], ◌∷◌, length, take, Some, All, refl, sym, ap, ◌∙◌, arith, subst, inl, inr, true≢false}
+use Rattle.std.proofs.Common.{ℕ, zero, suc, ◌≡◌, ◌⊎◌, ◌<◌, ◌≤◌, ◌+◌, ◌++◌, ◌==◌, ◌||◌, Bool, true, false, cond, List, [], ◌∷◌}
+use Rattle.std.proofs.Common.{length, take, Some, All, refl, sym, ap, ◌∙◌, arith, subst, inl, inr, true≢false}
 use Rattle.std.{proofs.lemmas.{Bool.{cases_Bool, eqb-true, eq-eqb, or_cases}, Option.{none-some, slice_get_within, get_or_from_slice_get}}, specs.Prelude.{slice_get}}
 use Rattle.std.proofs.lemmas.List.{Elements.{All-set, All-push, All-weaker}, Folds.list_any-append}
 use Rattle.std.specs.List.{list_any}

@@ -31,6 +31,12 @@ module _ {S : Type 0} (Turns : S → S → Type 0) (Fires : ℕ → S → S → 
     abbrev pub Chosen : ℕ → S → S → Type 0
     Chosen pick a b = (pick < count a) × Fires pick a b
 
+    -- so it is by choices
+    pub by_fires : {a b : S} {forks : List Fork} → Way Turns Chosen count a forks b → Way Turns Fires count a forks b
+    by_fires here = here
+    by_fires (turned turn way) = turned turn (by_fires way)
+    by_fires (fired pick fire way) = fired pick fire.1 (by_fires way)
+
     below_both : (p q : ℕ) → (p < q) ⊎ ((p ≡ q) ⊎ (q < p))
     below_both p q = by (nat_lt p q) refl (nat_lt q p) refl
       where

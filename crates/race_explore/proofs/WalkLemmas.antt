@@ -1,6 +1,7 @@
 -- The walk goes on by one run.
-use Rattle.std.proofs.Common.{ℕ, Bool, MatchBool, true, false, ◌≡◌, ◌⊎◌, ◌<◌, ◌≤◌, ◌+◌, ◌++◌, ◌^◌, List, [], ◌∷◌, All, length, Some, None, IsSome, refl, sym, ap, ◌∙◌, arith, subst, inl, inr, length-append}
-use Rattle.std.{proofs.lemmas.{List.Elements.{All-nil, All-cons, All-head, All-tail, All-push}, Option.none-some}, specs.Prelude.slice_get}
+use Rattle.std.proofs.Common.{ℕ, Bool, MatchBool, true, false, ◌≡◌, ◌⊎◌, ◌<◌, ◌≤◌, ◌+◌, ◌++◌, ◌^◌, List, [], ◌∷◌, All, length}
+use Rattle.std.proofs.Common.{Some, None, IsSome, refl, sym, ap, ◌∙◌, arith, subst, inl, inr, length-append}
+use Rattle.std.{proofs.lemmas.{List.Elements.{All-nil, All-cons, All-head, All-tail, All-push, All-weaker}, Option.{none-some, slice_get_within}}, specs.Prelude.slice_get}
 use Rattle.race_model.specs.Verdict.{Verdict}
 use Rattle.race_requests.specs.declared.request.{Answer.Answer, Request.Request}
 use Rattle.race_hub.specs.{Finish.IsRecorded, Hub.{HubState, opening}, Recording.RecordingState}
@@ -8,10 +9,10 @@ use Rattle.race_record.specs.{declared.noting.Fork.Fork, Noting.{HaveNext}, Seri
 use Rattle.race_script.specs.{Program.ProgramState, Run.{ScriptState, Asks, next_step, position_after}}
 use Rattle.race_verdict.specs.Traces.{HasVerdict}
 use Rattle.race_explore.specs.{Lists.{next_picks, After, IsLeft, HasPicks}, Ways.{Way, choice_count, Happens, IsNumbered, HasStopped}}
-use Rattle.race_explore.specs.Walk.{trace_of, Opens, IsNotedRun, Looked, Counts, IsLooked, EachRun, RunsFrom, IsSeen, IsWalked, IsWalkedOut}
-use Rattle.race_explore.specs.{declared.explored.Explored.Explored, Told.AreRacy}
-use Rattle.race_explore.proofs.ElementLemmas.{at_front, at_end}
-use Rattle.race_explore.proofs.{ListLemmas.{next_cases, none_after, after_is_left}, TreeLemmas.{zeros, revisits, same_or_later}}
+use Rattle.race_explore.specs.Walk.{trace_of, Opens, IsNotedRun, Looked, Counts, IsLooked, EachRun, RunsFrom, IsSeen, TakesChoices, IsEarlier, NoneTwice, IsWalked, IsWalkedOut}
+use Rattle.race_explore.specs.{declared.explored.Explored.Explored, Ends.AreBadEnds, Lists.Later, Told.AreRacy}
+use Rattle.race_explore.proofs.{ElementLemmas.{at_front, at_end, at_push, all_at}, LaterLemmas.{after_later, later_on}}
+use Rattle.race_explore.proofs.{ListLemmas.{next_cases, none_after, after_is_left}, TreeLemmas.{by_fires, zeros, revisits, same_or_later}}
 use Rattle.race_explore.proofs.OneStep.{some_is, head_is, tail_is, one_fired, choice_there, one_turn, turn_or_choice}
 use Rattle.race_explore.proofs.WayLemmas.{stopped_runs, notes_way, notes_picks, comes_way}
 
@@ -100,10 +101,26 @@ module _ (program : ProgramState) (limit : ℕ) where
       let others = tail_is x.main y.main x.others y.others (sym x.all ∙ y.all) in
       x.hub_is ∙ (λ i. opening program.decls limit (main i) (others i)) ∙ sym y.hub_is
 
+  -- before the first run
+  pub walk_begins : {A : Type 0} (e : Explored A) → Counts [] e → AreRacy [] e.racy.items → AreBadEnds [] e.bad.items → IsWalked program limit [] e
+  walk_begins e counts racy bad = record {
+    seen = [];
+    looked = All-nil (IsLooked program limit);
+    counts = counts;
+    racy = racy;
+    bad = bad;
+    none_twice = λ i k a b less at there. absurd (none-some a at);
+    left = λ hub h forks opens runs. inr tt;
+    follows = λ hub opens. inl refl;
+    earlier = λ hub h forks opens runs has. All-nil (IsEarlier program limit forks);
+    few = All-nil (λ p. p ≤ e.runs);
+  }
+
   module _ {A : Type 0} (picks : List ℕ) (old new : Explored A) (forks : List Fork) (r : RecordingState) (verdict : Verdict)
       (walked : IsWalked program limit picks old) (run : IsNotedRun program limit picks forks r) (right : HasVerdict (trace_of r) verdict)
       (counts : Counts (walked.seen ++ record { picks = picks; run = r; verdict = verdict } ∷ []) new)
       (racy : AreRacy (walked.seen ++ record { picks = picks; run = r; verdict = verdict } ∷ []) new.racy.items)
+      (bad : AreBadEnds (walked.seen ++ record { picks = picks; run = r; verdict = verdict } ∷ []) new.bad.items)
     where
       abbrev now : List Looked
       now = walked.seen ++ record { picks = picks; run = r; verdict = verdict } ∷ []
@@ -161,6 +178,51 @@ module _ (program : ProgramState) (limit : ℕ) where
         verdict = right;
       }
 
+      -- it takes its choices, and comes later than each that was seen
+      takes : TakesChoices program limit (record { picks = picks; run = r; verdict = verdict }) forks
+      takes = record {
+        hub = run.hub;
+        last = last;
+        opens = run.opens;
+        runs = runs;
+        recorded = run.noting.2;
+        picks = notes_picks Asks picks run.hub run.noting.1;
+      }
+
+      comes_last : All (IsEarlier program limit forks) walked.seen
+      comes_last = walked.earlier run.hub last forks run.opens runs (notes_picks Asks picks run.hub run.noting.1)
+
+      none_twice : NoneTwice program limit now
+      none_twice i k a b less at there = by (at_push walked.seen _ a i at) (at_push walked.seen _ b k there)
+        where
+          by : (slice_get walked.seen i ≡ Some a) ⊎ ((i ≡ length walked.seen) × (record { picks = picks; run = r; verdict = verdict } ≡ a))
+              → (slice_get walked.seen k ≡ Some b) ⊎ ((k ≡ length walked.seen) × (record { picks = picks; run = r; verdict = verdict } ≡ b))
+              → (others : List Fork) × TakesChoices program limit b others × IsEarlier program limit others a
+          by (inl at_i) (inl at_k) = walked.none_twice i k a b less at_i at_k
+          by (inl at_i) (inr (last_k, is)) =
+              (forks, subst (λ l. TakesChoices program limit l forks) is takes, all_at (IsEarlier program limit forks) walked.seen comes_last i a at_i)
+          by (inr (last_i, is)) (inl at_k) = let within = slice_get_within walked.seen k b at_k in absurd (omega (arith, within, last_i, less))
+          by (inr (last_i, is)) (inr (last_k, is2)) = absurd (omega (arith, last_i, last_k, less))
+
+      -- so does each by the next picks, also than this one
+      all_earlier : (next : List ℕ) → next_picks forks ≡ Some next → (hub h : HubState ScriptState) (others : List Fork) → Opens program limit hub
+          → RunsFrom hub others h → HasPicks next others → All (IsEarlier program limit others) now
+      all_earlier next is hub h others opens other has =
+          All-push (IsEarlier program limit others) walked.seen _
+          (All-weaker (IsEarlier program limit forks) (IsEarlier program limit others) earlier_still walked.seen comes_last) (forks, takes, later)
+        where
+          here : GoesTo run.hub others h
+          here = subst (λ s. GoesTo s others h) (one_opening hub run.hub opens run.opens) other.0
+
+          later : Later forks others
+          later =
+              after_later forks others
+              (revisits (TakesTurn Asks) Happens choice_count HasStopped (one_turn Asks one_ask) one_happens either no_turn no_event there next runs.0 runs.1
+              (by_fires (TakesTurn Asks) Happens choice_count HasStopped (one_turn Asks one_ask) one_happens either no_turn no_event there here) other.1 is has).1
+
+          earlier_still : (looked : Looked) → IsEarlier program limit forks looked → IsEarlier program limit others looked
+          earlier_still looked (own, own_choices, before) = (own, own_choices, later_on own forks others before later)
+
       one_more_run : new.runs ≡ old.runs + 1
       one_more_run =
           let longer : length now ≡ length walked.seen + 1 = length-append walked.seen (record { picks = picks; run = r; verdict = verdict } ∷ []) in
@@ -175,8 +237,11 @@ module _ (program : ProgramState) (limit : ℕ) where
         looked = all_looked;
         counts = counts;
         racy = racy;
+        bad = bad;
+        none_twice = none_twice;
         left = λ hub h others opens other. left hub h others opens other (seen_or_later hub h others opens other);
         follows = λ hub opens. inr (forks, last, (subst (λ s. GoesTo s forks last) (one_opening run.hub hub run.opens opens) runs.0, runs.1), is);
+        earlier = all_earlier next is;
         few = subst (λ n. All (λ p. p ≤ n) next) (sym one_more_run)
             (next_few old.runs picks forks next (notes_picks Asks picks run.hub run.noting.1) walked.few is);
       }
@@ -188,7 +253,7 @@ module _ (program : ProgramState) (limit : ℕ) where
 
       -- and is at its end where there are none
       pub walks_out : next_picks forks ≡ None → IsWalkedOut program limit new
-      walks_out none = record { seen = now; looked = all_looked; counts = counts; racy = racy; each = each }
+      walks_out none = record { seen = now; looked = all_looked; counts = counts; racy = racy; bad = bad; none_twice = none_twice; each = each }
         where
           each : EachRun program limit now
           each others r2 is =

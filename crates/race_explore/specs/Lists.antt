@@ -15,6 +15,11 @@ abbrev pub After : List Fork → List Fork → Type 0
 After (f ∷ forks) (g ∷ others) = ((f.pick ≡ g.pick) × After forks others) ⊎ ((f.pick < g.pick) × (f.more ≡ true))
 After _ _ = ⊥
 
+-- the second run is another one, and comes later: at the first event in which they differ its pick is greater
+abbrev pub Later : List Fork → List Fork → Type 0
+Later (f ∷ forks) (g ∷ others) = ((f.pick ≡ g.pick) × Later forks others) ⊎ (f.pick < g.pick)
+Later _ _ = ⊥
+
 -- the run is one of those that begin with the picks, or comes later
 abbrev pub IsLeft : List ℕ → List Fork → Type 0
 IsLeft [] forks = Unit {0}

@@ -1,15 +1,16 @@
 -- What it means that every run of a program was looked at. (Our own; compare The Go Memory Model, "Memory Model", requirement 1: each goroutine's
 -- execution)
-use Rattle.std.specs.Prelude.{ℕ, ◌≡◌, ◌⊎◌, ◌≤◌, ◌&&◌, nat_le, Bool, true, false, List, [], All, map, slice_get, Some}
+use Rattle.std.specs.Prelude.{ℕ, ◌≡◌, ◌⊎◌, ◌<◌, ◌≤◌, ◌&&◌, nat_le, Bool, true, false, List, [], All, map, slice_get, Some}
 use Rattle.race_records.specs.declared.trace.TheConstants.{MAX_EVENTS}
 use Rattle.race_verdict.specs.Traces.{HasVerdict}
 use Rattle.race_hub.specs.{Finish.IsRecorded, Hub.HubState, Opening.IsOpening, Recording.RecordingState}
 use Rattle.race_record.specs.{declared.noting.Fork.Fork, Noting.IsNoting, Recorded.IsRecordingOf}
 use Rattle.race_record.specs.Serial.{IsSerial, IsTurnedAway, TakesTurn}
 use Rattle.race_script.specs.{Certificate.IsCertified, Program.ProgramState, Run.{ScriptState, Asks}}
-use Rattle.race_explore.specs.{Lists.{next_picks, IsLeft}, Ways.{Way, choice_count, IsNumbered, HasStopped}}
-use Rattle.race_explore.specs.Told.{AreRacy}
-pub use Rattle.race_explore.specs.Looked.{trace_of, Looked, looked_of, is_racy_verdict, is_clean_verdict, is_main_end, is_deadlock_end, is_fault_end, is_clean_run, Counts, AreAccesses, IsCounted, HasSameCounts, IsBounded}
+use Rattle.race_explore.specs.{Lists.{next_picks, HasPicks, IsLeft, Later}, Ways.{Way, choice_count, IsNumbered, HasStopped}}
+use Rattle.race_explore.specs.{Ends.AreBadEnds, Told.AreRacy}
+pub use Rattle.race_explore.specs.Looked.{trace_of, Looked, looked_of, is_racy_verdict, is_clean_verdict, is_main_end, is_deadlock_end}
+pub use Rattle.race_explore.specs.Looked.{is_fault_end, is_clean_run, Counts, AreAccesses, IsCounted, HasSameCounts, IsBounded}
 use Rattle.race_explore.specs.declared.{walk.TheConstants.MAX_RUNS, explored.Explored.Explored}
 
 -- a script for each goroutine, of which nothing was asked
@@ -66,24 +67,49 @@ module _ (program : ProgramState) (limit : ℕ) where
   EachRun seen = (picks : List ℕ) (r : RecordingState) → IsRunBy program limit picks r
       → (k : ℕ) × (looked : Looked) × (slice_get seen k ≡ Some looked) × (looked.run ≡ r)
 
+  -- from the program's hub to its end the run takes these choices, by its picks
+  pub record TakesChoices (looked : Looked) (forks : List Fork) : Type 0 where
+    pub hub : HubState ScriptState
+    pub last : HubState ScriptState
+    pub opens : Opens program limit hub
+    pub runs : RunsFrom hub forks last
+    pub recorded : IsRecorded last looked.run
+    pub picks : HasPicks looked.picks forks
+
+  -- it comes earlier than one that takes these choices
+  abbrev pub IsEarlier : List Fork → Looked → Type 0
+  IsEarlier forks looked = (own : List Fork) × TakesChoices looked own × Later own forks
+
+  -- no run was looked at twice: of two the second comes later
+  abbrev pub NoneTwice : List Looked → Type 0
+  NoneTwice seen = (i k : ℕ) (a b : Looked) → i < k → slice_get seen i ≡ Some a → slice_get seen k ≡ Some b
+      → (forks : List Fork) × TakesChoices b forks × IsEarlier forks a
+
   -- what the runs come to: these were looked at, and counted; all of them, or as many as were wanted
   pub record IsExplored {A : Type 0} (most : ℕ) (e : Explored A) : Type 0 where
     pub seen : List Looked
     pub looked : All IsLooked seen
     pub counts : Counts seen e
     pub racy : AreRacy seen e.racy.items
+    pub bad : AreBadEnds seen e.bad.items
+    pub none_twice : NoneTwice seen
     pub whole : e.whole ≡ true → EachRun seen
     pub stopped : e.whole ≡ false → e.runs ≡ most
 
-  -- the walk has come so far: each run was seen, or is left to the picks, which are none, or come next after those of a run
+  -- the walk has come so far: each run was seen, or is left to the picks, which are none, or come next after those of a run;
+  -- the run by these picks comes later than each that was seen
   pub record IsWalked {A : Type 0} (picks : List ℕ) (e : Explored A) : Type 0 where
     pub seen : List Looked
     pub looked : All IsLooked seen
     pub counts : Counts seen e
     pub racy : AreRacy seen e.racy.items
+    pub bad : AreBadEnds seen e.bad.items
+    pub none_twice : NoneTwice seen
     pub left : (hub h : HubState ScriptState) (forks : List Fork) → Opens program limit hub → RunsFrom hub forks h → IsSeen h seen ⊎ IsLeft picks forks
     pub follows : (hub : HubState ScriptState) → Opens program limit hub
         → (picks ≡ []) ⊎ ((forks : List Fork) × (h : HubState ScriptState) × RunsFrom hub forks h × (next_picks forks ≡ Some picks))
+    pub earlier : (hub h : HubState ScriptState) (forks : List Fork) → Opens program limit hub → RunsFrom hub forks h → HasPicks picks forks
+        → All (IsEarlier forks) seen
     pub few : All (λ pick. pick ≤ e.runs) picks
 
   -- and has come to its end
@@ -92,4 +118,6 @@ module _ (program : ProgramState) (limit : ℕ) where
     pub looked : All IsLooked seen
     pub counts : Counts seen e
     pub racy : AreRacy seen e.racy.items
+    pub bad : AreBadEnds seen e.bad.items
+    pub none_twice : NoneTwice seen
     pub each : EachRun seen

@@ -1,13 +1,14 @@
 //! What the runs come to.
 ghost use Rattle.std.specs.Prelude.{◌≡◌, ◌≤◌, ◌<◌, ◌+◌, ◌^◌, ◌++◌, ◌∷◌, [], All, List, false, OnOk};
 ghost use Rattle.race_verdict.specs.{Races.race_of, Traces.HasVerdict, Verdicts.verdict_of};
-ghost use Rattle.race_explore.specs.Looked.{AreAccesses, Counts, HasSameCounts, IsCounted, IsBounded, Looked, looked_of};
-ghost use Rattle.race_explore.specs.Told.{AreRacy, CountsRace};
+ghost use Rattle.race_explore.specs.Looked.{AreAccesses, Counts, HasSameCounts, IsCounted, IsBounded};
+ghost use Rattle.race_explore.specs.Looked.{Looked, looked_of};
+ghost use Rattle.race_explore.specs.{Ends.{AreBadEnds, CountsEndOf}, Told.{AreRacy, CountsRace}};
 ghost use Rattle.race_explore.specs.Looked as spec;
 
-use crate::places::place_of;
+use crate::places::{place_of, place_of_end};
 use crate::reported::reported;
-use crate::stuck::{BadEnd, Standing, standing_at};
+use crate::stuck::{BadEnd, standing_at};
 use race_hub::{End, Recording};
 use race_records::Trace;
 use race_verdict::{Race, ReportedRace, Verdict};
@@ -51,6 +52,7 @@ impl<A: Allocator + Copy> Explored<A> {
     pub(crate) fn new(alloc: A) -> Explored<A>
         ensures counts { Counts [] result }
         ensures racy { AreRacy [] result.racy.items }
+        ensures bad { AreBadEnds [] result.bad.items }
         ensures whole { result.whole ≡ false }
     {
         Explored {
@@ -75,10 +77,12 @@ impl<A: Allocator + Copy> Explored<A> {
     ) -> Result<(), AllocError>
         requires bounded { IsBounded self.old }
         requires few { All (λ v. v.runs ≤ self.old.runs) self.old.racy.items }
+        requires few_ends { All (λ b. b.runs ≤ self.old.runs) self.old.bad.items }
         requires right { HasVerdict (spec.trace_of recording.now) (verdict_of verdict.now) }
         ensures counted { OnOk result (IsCounted recording.now.end (verdict_of verdict.now) self.old self.new) }
         ensures racy { OnOk result ((seen : List Looked) → AreRacy seen self.old.racy.items
             → AreRacy (seen ++ looked_of picks.now recording.now verdict.now ∷ []) self.new.racy.items) }
+        ensures bad { OnOk result (CountsEndOf recording.now picks.now self.old.bad.items self.new.bad.items) }
     {
         self.count_races(recording, verdict, picks)?;
         self.count_bad(recording, picks)?;
@@ -91,6 +95,7 @@ impl<A: Allocator + Copy> Explored<A> {
         requires { IsBounded self.old }
         ensures counted { IsCounted end (verdict_of verdict.now) self.old self.new }
         ensures racy { self.new.racy.items ≡ self.old.racy.items }
+        ensures bad { self.new.bad.items ≡ self.old.bad.items }
     {
         self.runs += 1;
         self.clean += u64::from(is_clean_run(verdict, end));
@@ -112,6 +117,7 @@ impl<A: Allocator + Copy> Explored<A> {
         ensures same { OnOk result (HasSameCounts self.old self.new) }
         ensures racy { OnOk result ((seen : List Looked) → AreRacy seen self.old.racy.items
             → AreRacy (seen ++ looked_of picks.now recording.now verdict.now ∷ []) self.new.racy.items) }
+        ensures bad { OnOk result (self.new.bad.items ≡ self.old.bad.items) }
     {
         let Verdict::Races(races) = verdict else {
             return Ok(());
@@ -127,7 +133,9 @@ impl<A: Allocator + Copy> Explored<A> {
         requires few { All (λ v. v.runs + 1 < 2 ^ 64) self.old.racy.items }
         requires accesses { AreAccesses trace.now.events (race_of race) }
         ensures same { OnOk result (HasSameCounts self.old self.new) }
-        ensures racy { OnOk result (CountsRace trace.now.events picks.now (race_of race) self.old.racy.items self.new.racy.items) }
+        ensures racy { OnOk result
+            (CountsRace trace.now.events picks.now (race_of race) self.old.racy.items self.new.racy.items) }
+        ensures bad { OnOk result (self.new.bad.items ≡ self.old.bad.items) }
     {
         if let Some(place) = place_of(self.racy.as_slice(), race.var) {
             self.racy[place].runs += 1;
@@ -144,15 +152,18 @@ impl<A: Allocator + Copy> Explored<A> {
 
     // Notes how a run ended, where main didn't return.
     fn count_bad(&mut self, recording: &Recording<A>, picks: &[u64]) -> Result<(), AllocError>
+        requires { All (λ b. b.runs + 1 < 2 ^ 64) self.old.bad.items }
         ensures same { OnOk result (HasSameCounts self.old self.new) }
         ensures racy { OnOk result (self.new.racy.items ≡ self.old.racy.items) }
+        ensures bad { OnOk result (CountsEndOf recording.now picks.now self.old.bad.items self.new.bad.items) }
     {
         let end = recording.end();
         if is_main(end) {
             return Ok(());
         }
         let standing = standing_at(self.alloc, recording)?;
-        if has_happened(&mut self.bad, end, standing.as_slice()) {
+        if let Some(place) = place_of_end(self.bad.as_slice(), end, standing.as_slice()) {
+            self.bad[place].runs += 1;
             return Ok(());
         }
         let picks = Vec::from_slice(self.alloc, picks)?;
@@ -164,21 +175,6 @@ impl<A: Allocator + Copy> Explored<A> {
         })?;
         Ok(())
     }
-}
-
-// Whether a run ended so before; then one run more did.
-fn has_happened<A: Allocator>(
-    bad: &mut Vec<BadEnd<A>, A>,
-    end: End,
-    standing: &[Standing],
-) -> bool {
-    for i in 0..bad.len() {
-        if bad[i].end == end && is_same(bad[i].standing.as_slice(), standing) {
-            bad[i].runs = bad[i].runs.saturating_add(1);
-            return true;
-        }
-    }
-    false
 }
 
 // There is no race, and main returned.
@@ -226,17 +222,4 @@ fn is_failed(end: End) -> bool
     ensures { result ≡ spec.is_fault_end end }
 {
     matches!(end, End::Fault)
-}
-
-// Whether the same goroutines stand at the same places.
-fn is_same(these: &[Standing], those: &[Standing]) -> bool {
-    if these.len() != those.len() {
-        return false;
-    }
-    for i in 0..these.len() {
-        if these[i] != those[i] {
-            return false;
-        }
-    }
-    true
 }

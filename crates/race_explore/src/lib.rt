@@ -14,3 +14,4 @@ pub use explored::{Explored, RacyVariable};
 pub use fault::ExploreFault;
 pub use stuck::{BadEnd, Standing};
 pub use walk::{MAX_RUNS, explore};
+pub use walked::program_hub;

@@ -5,8 +5,9 @@ ghost use Rattle.race_explore.specs.Lists.{next_picks};
 use race_record::Fork;
 use std::alloc::{AllocError, Allocator};
 
-/// Makes these picks those of the run that comes after the one with these events, which are used up: the last pick for which
-/// there was a choice of the next number is one greater, and what comes after it is left out. False where there is none.
+/// Makes these picks those of the run that comes after the one with these events, which are used up: the last pick for
+/// which there was a choice of the next number is one greater, and what comes after it is left out. False where there is
+/// none.
 pub(crate) fn advance<A: Allocator, B: Allocator>(
     forks: &mut Vec<Fork, B>,
     picks: &mut Vec<u64, A>,

@@ -18,8 +18,8 @@ pub const MAX_RUNS: u64 = 1_000_000_000_000;
 // A definition cites this number, so it is written down twice.
 const _: () = prove!(MAX_RUNS == 1_000_000_000_000);
 
-/// Runs the program by one list of picks after another, in lexicographic order, and judges each run, until all were looked
-/// at, or as many as are wanted. A run has at most `limit` events.
+/// Runs the program by one list of picks after another, in lexicographic order, and judges each run, until all were
+/// looked at, or as many as are wanted. No run is looked at twice. A run has at most `limit` events.
 ///
 /// No run is kept: each is made anew from its picks.
 pub fn explore<A: Allocator + Copy + Send>(
@@ -67,7 +67,8 @@ fn look_at_next<A: Allocator + Copy + Send>(
     requires few { explored.old.runs < MAX_RUNS }
     requires walked { IsWalked program.now limit picks.old.items explored.old }
     ensures walked { IfOk result (λ more.
-        MatchBool more (IsWalked program.now limit picks.new.items explored.new) (IsWalkedOut program.now limit explored.new)) }
+        MatchBool more (IsWalked program.now limit picks.new.items explored.new)
+        (IsWalkedOut program.now limit explored.new)) }
     ensures runs { IfOk result (λ _. explored.new.runs ≡ explored.old.runs + 1) }
     ensures whole { IfOk result (λ _. explored.new.whole ≡ explored.old.whole) }
     ensures refused { result ≡ Err ExploreFault.NotARun → (list : List ℕ) × IsRefused program.now limit list }

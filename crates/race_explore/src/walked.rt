@@ -23,15 +23,16 @@ pub(crate) fn run_by<A: Allocator + Copy + Send>(
     ensures run { IfOk result (λ recording. IsNotedRun program.now limit picks.now forks.new.items recording) }
     ensures refused { result ≡ Err ExploreFault.NotARun → IsRefused program.now limit picks.now }
 {
-    let hub = opened(alloc, program, limit)?;
+    let hub = program_hub(alloc, program, limit)?;
     match record_noting(hub, picks, forks) {
         Ok(recording) => certified(program, recording),
         Err(fault) => Err(unrecorded(fault)),
     }
 }
 
-// The hub of the program before its first event.
-fn opened<A: Allocator + Copy + Send>(
+/// The hub of the program before its first event, of at most so many. There is none where memory is refused, or where
+/// the limit is none of a hub's.
+pub fn program_hub<A: Allocator + Copy + Send>(
     alloc: A,
     program: &Program<A>,
     limit: u32,
@@ -43,7 +44,7 @@ fn opened<A: Allocator + Copy + Send>(
     let scripts = scripts(alloc, program)?;
     match Hub::new(alloc, decls, limit, scripts) {
         Ok(hub) => Ok(hub),
-        // There is a script for each goroutine, and the limit was tested.
+        // There is a script for each goroutine.
         Err(_) => Err(AllocError),
     }
 }

@@ -1,8 +1,8 @@
 use Rattle.std.proofs.Common.{ℕ, List, [], ◌∷◌, ◌++◌, subst}
 use Rattle.race_verdict.specs.Verdicts.{verdict_of}
 use Rattle.race_script.specs.Run.{Asks}
-use Rattle.race_explore.specs.{Told.AreRacy, Walk.{IsNotedRun, Looked}}
-use Rattle.race_explore.proofs.{AccessLemmas.recorded_verdict, CountLemmas.{counts_more, racy_few}, EndLemmas.few_next, WayLemmas.notes_picks, WalkLemmas.{forks_next, looks_on}}
+use Rattle.race_explore.specs.{Ends.CountsEndOf, Told.AreRacy, Walk.{IsNotedRun, Looked}}
+use Rattle.race_explore.proofs.{AccessLemmas.recorded_verdict, BadEndLemmas.{bad_counted, bad_few}, CountLemmas.{counts_more, racy_few}, EndLemmas.few_next, WayLemmas.notes_picks, WalkLemmas.{forks_next, looks_on}}
 use Rattle.race_explore.proofs.walk.look_at_next.Goals as goal
 
 pub count-requires-clause-right : goal.count-requires-clause-right
@@ -12,6 +12,9 @@ count-requires-clause-right g c =
 
 pub count-requires-clause-few : goal.count-requires-clause-few
 count-requires-clause-few g c = racy_few c.requires.walked.seen c.args.explored.now c.requires.walked.counts c.requires.walked.racy
+
+pub count-requires-clause-few_ends : goal.count-requires-clause-few_ends
+count-requires-clause-few_ends g c = bad_few c.requires.walked.seen c.args.explored.now c.requires.walked.counts c.requires.walked.bad
 
 pub advance-requires : goal.advance-requires
 advance-requires g c =
@@ -33,5 +36,8 @@ returns-clause-walked g c =
     let counts = counts_more c.requires.walked.seen looked c.args.explored.now c.count.new.self c.requires.walked.counts c.in_ok-count.ensures.counted in
     let racy = subst (λ (p : List ℕ). AreRacy (c.requires.walked.seen ++ record { picks = p; run = r; verdict = verdict } ∷ []) c.count.new.self.racy.items)
     c.as_slice-2.ensures.value (c.in_ok-count.ensures.racy c.requires.walked.seen c.requires.walked.racy) in
-    looks_on c.args.program.now c.args.limit picks c.args.explored.now c.count.new.self forks r verdict c.requires.walked run right counts racy
+    let ends = subst (λ (p : List ℕ). CountsEndOf r p c.args.explored.now.bad.items c.count.new.self.bad.items) c.as_slice-2.ensures.value
+    c.in_ok-count.ensures.bad in
+    let bad = bad_counted c.requires.walked.seen looked c.args.explored.now.bad.items c.count.new.self.bad.items ends c.requires.walked.bad in
+    looks_on c.args.program.now c.args.limit picks c.args.explored.now c.count.new.self forks r verdict c.requires.walked run right counts racy bad
     c.advance.new.picks.items c.in_ok-advance.field-0 c.in_ok-advance.ensures

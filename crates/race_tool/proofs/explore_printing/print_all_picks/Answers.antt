@@ -16,7 +16,8 @@ loop-pick-preserved g c =
 pub returns-in-Err : goal.returns-in-Err
 returns-in-Err g c =
     let l = c.loop-pick in
-    item_breaks_off pick_text (codes "; with --picks ") (codes ",") c.args.picks.now l.pick-index _ c.loop-pick-test.true l.mark.now l.invariant.mark l.invariant.printed c.in-Err.ensures
+    item_breaks_off pick_text (codes "; with --picks ") (codes ",") c.args.picks.now l.pick-index _ c.loop-pick-test.true l.mark.now
+    l.invariant.mark l.invariant.printed c.in-Err.ensures
 
 pub returns : goal.returns
 returns g c =

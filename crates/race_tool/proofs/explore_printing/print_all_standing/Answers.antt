@@ -9,15 +9,16 @@ pub loop-one-preserved : goal.loop-one-preserved
 loop-one-preserved g c =
     let l = c.loop-one in
     record {
-      printed = item_behind (standing_text c.args.decls.now) (codes ": ") (codes ", ") c.args.standing.now l.one-index _ c.loop-one-test.true l.mark.now l.invariant.mark l.invariant.printed
-          c.in_default.ensures;
+      printed = item_behind (standing_text c.args.decls.now) (codes ": ") (codes ", ") c.args.standing.now l.one-index _ c.loop-one-test.true l.mark.now
+          l.invariant.mark l.invariant.printed c.in_default.ensures;
       mark = c.as_slice-mark-in-loop-one.ensures ∙ sym (next_mark (codes ": ") (codes ", ") l.one-index);
     }
 
 pub returns-in-Err : goal.returns-in-Err
 returns-in-Err g c =
     let l = c.loop-one in
-    item_breaks_off (standing_text c.args.decls.now) (codes ": ") (codes ", ") c.args.standing.now l.one-index _ c.loop-one-test.true l.mark.now l.invariant.mark l.invariant.printed c.in-Err.ensures
+    item_breaks_off (standing_text c.args.decls.now) (codes ": ") (codes ", ") c.args.standing.now l.one-index _ c.loop-one-test.true l.mark.now
+    l.invariant.mark l.invariant.printed c.in-Err.ensures
 
 pub returns : goal.returns
 returns g c =

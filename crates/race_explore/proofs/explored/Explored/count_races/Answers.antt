@@ -38,7 +38,7 @@ loop-race-preserved g c =
     let counts = subst (λ (events : List Event). CountsRace events c.args.picks.now (race_of race) c.loop-race.self.racy.items c.count_race.new.self.racy.items)
     c.trace.ensures.events c.in_ok-count_race.ensures.racy in
     noting_goes_on c.args.self.now c.args.picks.now c.args.recording.now items k race (slice_get-get_or items k no_race c.loop-race-test.true) of_items
-    c.loop-race.self c.count_race.new.self c.loop-race.invariant c.in_ok-count_race.ensures.same counts
+    c.loop-race.self c.count_race.new.self c.loop-race.invariant c.in_ok-count_race.ensures.same c.in_ok-count_race.ensures.bad counts
 
 pub returns-clause-racy : goal.returns-clause-racy
 returns-clause-racy g c = λ seen are.

@@ -1,6 +1,6 @@
 use Rattle.std.proofs.Common.{◌∙◌}
 use Rattle.race_explore.proofs.ScriptLemmas.{opens_program, none_out}
-use Rattle.race_explore.proofs.walked.opened.Goals as goal
+use Rattle.race_explore.proofs.walked.program_hub.Goals as goal
 
 pub returns-in-Ok-clause-opens : goal.returns-in-Ok-clause-opens
 returns-in-Ok-clause-opens g c =

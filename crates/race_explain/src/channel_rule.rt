@@ -2,7 +2,7 @@
 
 use crate::illegal::{put_later, put_since};
 use crate::names::{name_of, who_at};
-use crate::past::{Deed, count_before, front, last_before, waiting};
+use crate::past::{Deed, count_before, first_after, front, last_before, waiting};
 use crate::put::{put, put_at, put_number_in};
 use crate::rule::value_of;
 use race_legal::Rule;
@@ -30,20 +30,29 @@ pub(crate) fn put_channel_rule<A: Allocator, B: Allocator>(
         }
         Rule::BufferFull => {
             put_waiting(out, trace, at, chan, ", in whose buffer ")?;
-            put_number_in(out, ", and its capacity is ", capacity(trace, chan), "")
+            put_number_in(out, ", and its capacity is ", capacity(trace, chan), "")?;
+            put_missing_receive(out, trace, at, chan)
         }
-        Rule::BufferEmpty => put_empty(out, trace, at, chan),
+        Rule::BufferEmpty => put_empty(out, trace, at, op, chan),
         Rule::WrongValue => put_wrong_value(out, trace, at, op, chan),
         Rule::NotClosed => {
             put(
                 out,
                 &[", which is open: no event before this one closes it"],
             )?;
-            put_later(out, trace, at, Deed::Closes(chan), " does")
+            put_later(
+                out,
+                trace,
+                at,
+                Deed::Closes(chan),
+                " does",
+                "; a close may be missing",
+            )
         }
         Rule::NotDrained => {
             put_waiting(out, trace, at, chan, ", in whose buffer ")?;
-            put_front(out, trace, at, chan)
+            put_front(out, trace, at, chan)?;
+            put_missing_receive(out, trace, at, chan)
         }
         _ => Ok(()),
     }
@@ -102,10 +111,30 @@ fn put_wrong_form<A: Allocator, B: Allocator>(
     )
 }
 
+// Which event receives the value that waits longest only later, or that a receive of it may be missing.
+fn put_missing_receive<A: Allocator, B: Allocator>(
+    out: &mut Vec<u8, A>,
+    trace: &Trace<B>,
+    at: u32,
+    chan: u32,
+) -> Result<(), AllocError> {
+    let receives = Deed::Receives(chan);
+    match front(trace, at, chan) {
+        Some(send) => if first_after(trace, at, receives).is_some() {
+            put_later(out, trace, at, receives, " receives", "")
+        } else {
+            let value = value_of(trace, send);
+            put_number_in(out, "; a recv of ", value, " may be missing before it")
+        },
+        None => Ok(()),
+    }
+}
+
 fn put_empty<A: Allocator, B: Allocator>(
     out: &mut Vec<u8, A>,
     trace: &Trace<B>,
     at: u32,
+    op: &Op,
     chan: u32,
 ) -> Result<(), AllocError> {
     let sent = count_before(trace, at, Deed::Sends(chan));
@@ -126,7 +155,26 @@ fn put_empty<A: Allocator, B: Allocator>(
             " closed it, so this may be a recvclosed",
         );
     }
-    put_later(out, trace, at, Deed::Sends(chan), " sends")
+    put_missing_send(out, trace, at, op, chan)
+}
+
+// Which event sends only later, if it sends the value that the receive finds, or that a send of it may be missing.
+fn put_missing_send<A: Allocator, B: Allocator>(
+    out: &mut Vec<u8, A>,
+    trace: &Trace<B>,
+    at: u32,
+    op: &Op,
+    chan: u32,
+) -> Result<(), AllocError> {
+    let Op::Recv(_, value) = op else {
+        return Ok(());
+    };
+    if let Some(later) = first_after(trace, at, Deed::Sends(chan)) {
+        if value_of(trace, later) == *value {
+            return put_later(out, trace, at, Deed::Sends(chan), " sends this value", "");
+        }
+    }
+    put_number_in(out, "; a send of ", *value, " may be missing before it")
 }
 
 fn put_wrong_value<A: Allocator, B: Allocator>(
@@ -139,7 +187,18 @@ fn put_wrong_value<A: Allocator, B: Allocator>(
     if let Op::Recv(_, value) = op {
         put_number_in(out, " finds ", *value, "")?;
     }
-    put_front(out, trace, at, chan)
+    put_front(out, trace, at, chan)?;
+    match front(trace, at, chan) {
+        Some(send) => {
+            put_number_in(
+                out,
+                "; ",
+                value_of(trace, send),
+                " is wanted here, or a recv of it before",
+            )
+        }
+        None => Ok(()),
+    }
 }
 
 // Which value waits longest, and who sent it.

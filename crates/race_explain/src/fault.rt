@@ -71,7 +71,7 @@ fn put_sentence<A: Allocator, B: Allocator>(
         TextCause::BadHeader => put(out, &[looks_like(faulty.line)]),
         TextCause::NoNewline => put_unended(out, faulty.fault.line),
         TextCause::BadByte => put_bad_byte(out, faulty.line),
-        TextCause::UnknownWord => put_unknown_word(out, cut_at(faulty.line, b' ').0),
+        TextCause::UnknownWord => put_unknown_word(out, faulty.line),
         TextCause::WrongCount => put_count(out, faulty.line),
         cause => match &faulty.before {
             Some(before) => match faulty_word(before.decls(), faulty.line, cause) {

@@ -102,23 +102,36 @@ fn put_idle<A: Allocator, B: Allocator>(
         return put_at(out, trace, "", exit, " is its exit");
     }
     put(out, &["no event before this one starts it"])?;
-    put_later(out, trace, at, Deed::Starts(goroutine), " does")
+    let starts = Deed::Starts(goroutine);
+    put_later(
+        out,
+        trace,
+        at,
+        starts,
+        " does",
+        "; a go of it may be missing",
+    )?;
+    if first_after(trace, at, starts).is_some() {
+        put(out, &[": the starter's go comes first"])?;
+    }
+    Ok(())
 }
 
-/// Puts which event after this one does what is missing before it, if one does.
+/// Puts which event after this one does what is missing before it, or else what may be missing.
 pub(crate) fn put_later<A: Allocator, B: Allocator>(
     out: &mut Vec<u8, A>,
     trace: &Trace<B>,
     at: u32,
     deed: Deed,
     what: &str,
+    missing: &str,
 ) -> Result<(), AllocError> {
     match first_after(trace, at, deed) {
         Some(later) => {
             put_at(out, trace, "; ", later, what)?;
             put(out, &[", but comes later"])
         }
-        None => Ok(()),
+        None => put(out, &[missing]),
     }
 }
 
@@ -156,7 +169,8 @@ fn put_no_fault<A: Allocator, B: Allocator>(
         Cause::UnlockFree(lock) => {
             put(out, &[name_of(trace, Named::Lock(*lock))])?;
             put(out, &[" is locked, so its unlock doesn't fail"])?;
-            put_since(out, trace, at, Deed::Locks(*lock), " locked it")
+            put_since(out, trace, at, Deed::Locks(*lock), " locked it")?;
+            put_unlock(out, trace, at, *lock)
         }
         Cause::RUnlockFree(lock) => {
             put(out, &[name_of(trace, Named::Lock(*lock))])?;
@@ -164,9 +178,39 @@ fn put_no_fault<A: Allocator, B: Allocator>(
                 out,
                 &[" is locked for reading, so its runlock doesn't fail"],
             )?;
-            put_since(out, trace, at, Deed::ReadLocks(*lock), " locked it")
+            put_since(out, trace, at, Deed::ReadLocks(*lock), " locked it")?;
+            put_runlock(out, trace, at, *lock)
         }
     }
+}
+
+/// Puts which event after this one unlocks the lock, or that an unlock may be missing.
+pub(crate) fn put_unlock<A: Allocator, B: Allocator>(
+    out: &mut Vec<u8, A>,
+    trace: &Trace<B>,
+    at: u32,
+    lock: u32,
+) -> Result<(), AllocError> {
+    let missing = "; an unlock may be missing in between";
+    put_later(out, trace, at, Deed::Unlocks(lock), " unlocks it", missing)
+}
+
+/// Puts which event after this one unlocks the lock from reading, or that a runlock may be missing.
+pub(crate) fn put_runlock<A: Allocator, B: Allocator>(
+    out: &mut Vec<u8, A>,
+    trace: &Trace<B>,
+    at: u32,
+    lock: u32,
+) -> Result<(), AllocError> {
+    let missing = "; a runlock may be missing in between";
+    put_later(
+        out,
+        trace,
+        at,
+        Deed::ReadUnlocks(lock),
+        " unlocks it from reading",
+        missing,
+    )
 }
 
 fn put_open<A: Allocator, B: Allocator>(
@@ -182,7 +226,14 @@ fn put_open<A: Allocator, B: Allocator>(
             " is open, so this doesn't fail: no event before this one closes it",
         ],
     )?;
-    put_later(out, trace, at, Deed::Closes(chan), " does")
+    put_later(
+        out,
+        trace,
+        at,
+        Deed::Closes(chan),
+        " does",
+        "; a close may be missing",
+    )
 }
 
 /// Puts which event did so last before this one, and whose it is.

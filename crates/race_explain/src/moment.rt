@@ -22,7 +22,7 @@ pub(crate) fn put_moment<A: Allocator + Copy, B: Allocator>(
         }
     }
     if !any {
-        put(out, &["without a lock"])?;
+        put(out, &["without a lock that is in the trace"])?;
     }
     put_last(out, trace, at, who)
 }

@@ -28,7 +28,7 @@ pub(crate) fn put_word<A: Allocator, B: Allocator>(
             put_quoted(out, found.word)?;
             put(out, &[" has more than 16 cases"])
         }
-        _ => put_bad_form(out, cause, found),
+        _ => put_bad_form(out, cause, found, faulty.line),
     }
 }
 
@@ -87,15 +87,12 @@ fn put_bad_form<A: Allocator>(
     out: &mut Vec<u8, A>,
     cause: TextCause,
     found: &FaultyWord<'_>,
+    line: &[u8],
 ) -> Result<(), AllocError> {
     if found.word.is_empty() {
-        put(
-            out,
-            &["the empty word, between two blanks or after the last one,"],
-        )?;
-    } else {
-        put_quoted(out, found.word)?;
+        return put_empty_word(out, found, line);
     }
+    put_quoted(out, found.word)?;
     if cause == TextCause::BadNumber && is_of_digits(found.word) {
         let what = if found.word.starts_with(b"0") {
             " has a leading zero: "
@@ -108,6 +105,35 @@ fn put_bad_form<A: Allocator>(
         out,
         &[" isn't ", one_of(found.field), ": ", form_of(found.field)],
     )
+}
+
+// What is said of an empty word.
+fn put_empty_word<A: Allocator>(
+    out: &mut Vec<u8, A>,
+    found: &FaultyWord<'_>,
+    line: &[u8],
+) -> Result<(), AllocError> {
+    let what = one_of(found.field);
+    if found.column == line.len() {
+        put(
+            out,
+            &[
+                "the line ends with a blank, and ",
+                what,
+                " is missing after it: ",
+            ],
+        )?;
+    } else {
+        put(
+            out,
+            &[
+                "a second blank stands where ",
+                what,
+                " is wanted, and one blank comes between words: ",
+            ],
+        )?;
+    }
+    put(out, &[form_of(found.field)])
 }
 
 // Whether the word has digits alone, and at least one.

@@ -1,7 +1,7 @@
 //! Why an event on a variable, a lock or a once breaks its rule.
 
 use crate::holding::put_holders;
-use crate::illegal::{put_later, put_since};
+use crate::illegal::{put_later, put_runlock, put_since, put_unlock};
 use crate::names::{event_at, goroutine, name_of, who_at};
 use crate::past::{Deed, first_after, is_locked, last_before, readers};
 use crate::put::{put, put_at, put_number, put_number_in};
@@ -42,7 +42,7 @@ pub(crate) fn put_stale_read<A: Allocator, B: Allocator>(
     put_later_write(out, trace, at, var, value)
 }
 
-// The next write of the variable, if it writes this value.
+// The next write of the variable, if it writes this value, or else that a write of it may be missing.
 fn put_later_write<A: Allocator, B: Allocator>(
     out: &mut Vec<u8, A>,
     trace: &Trace<B>,
@@ -50,14 +50,12 @@ fn put_later_write<A: Allocator, B: Allocator>(
     var: u32,
     value: u64,
 ) -> Result<(), AllocError> {
-    match first_after(trace, at, Deed::Writes(var)) {
-        Some(later) => if value_of(trace, later) == value {
-            put_later(out, trace, at, Deed::Writes(var), " writes this value")
-        } else {
-            Ok(())
-        },
-        None => Ok(()),
+    if let Some(later) = first_after(trace, at, Deed::Writes(var)) {
+        if value_of(trace, later) == value {
+            return put_later(out, trace, at, Deed::Writes(var), " writes this value", "");
+        }
     }
+    put_number_in(out, "; a write of ", value, " may be missing before it")
 }
 
 // The value of an access or of a send.
@@ -100,15 +98,9 @@ fn put_not_free<A: Allocator + Copy, B: Allocator>(
 ) -> Result<(), AllocError> {
     put_holders(out, trace, at, who, lock)?;
     if is_locked(trace, at, lock) {
-        put_later(out, trace, at, Deed::Unlocks(lock), " unlocks it")
+        put_unlock(out, trace, at, lock)
     } else {
-        put_later(
-            out,
-            trace,
-            at,
-            Deed::ReadUnlocks(lock),
-            " unlocks it from reading",
-        )
+        put_runlock(out, trace, at, lock)
     }
 }
 
@@ -120,18 +112,22 @@ struct Mode {
     unheld: &'static str,
     /// What is said of it where it is held the other way.
     held_else: &'static str,
+    /// What is said where no event locks it so.
+    missing: &'static str,
 }
 
 const WRITING: Mode = Mode {
     reading: false,
     unheld: " isn't locked",
     held_else: " isn't locked, but locked for reading, which a runlock ends",
+    missing: "; a lock may be missing",
 };
 
 const READING: Mode = Mode {
     reading: true,
     unheld: " isn't locked for reading",
     held_else: " isn't locked for reading, but for writing, which an unlock ends",
+    missing: "; an rlock may be missing",
 };
 
 // What locks so, and what unlocks.
@@ -173,11 +169,12 @@ fn put_not_held<A: Allocator, B: Allocator>(
     match last_before(trace, at, unlocks) {
         Some(unlock) => {
             put_since(out, trace, at, unlocks, " unlocked it")?;
-            put_other_locker(out, trace, unlock, locks)
+            put_other_locker(out, trace, unlock, locks)?;
+            put_later(out, trace, at, locks, " locks it again", mode.missing)
         }
         None => {
             put(out, &[": no event before this one locks it"])?;
-            put_later(out, trace, at, locks, " does")
+            put_later(out, trace, at, locks, " does", mode.missing)
         }
     }
 }
@@ -193,8 +190,8 @@ fn put_other_locker<A: Allocator, B: Allocator>(
         Some(lock) => if who_at(trace, lock) == who_at(trace, unlock) {
             Ok(())
         } else {
-            put(out, &[", which ", who_at(trace, lock)])?;
-            put_at(out, trace, " had locked in ", lock, "")
+            put(out, &[", though ", who_at(trace, lock)])?;
+            put_at(out, trace, " had locked it in ", lock, "")
         },
         None => Ok(()),
     }
@@ -217,7 +214,48 @@ pub(crate) fn put_once_rule<A: Allocator + Copy, B: Allocator>(
             put_function(out, trace, once)?;
             put_not_done(out, trace, at, once)
         }
+        Op::OnceEnd(once) => {
+            put_innermost(out, trace, at, event.who)?;
+            put_beginner(out, trace, at, event.who, once)
+        }
         _ => put_innermost(out, trace, at, event.who),
+    }
+}
+
+// Of a function that the goroutine ends but isn't in: who began it, or which event ended it before.
+fn put_beginner<A: Allocator, B: Allocator>(
+    out: &mut Vec<u8, A>,
+    trace: &Trace<B>,
+    at: u32,
+    who: u32,
+    once: u32,
+) -> Result<(), AllocError> {
+    let ended = last_before(trace, at, Deed::Ends(once)).is_some();
+    match last_before(trace, at, Deed::Begins(once)) {
+        Some(begin) => if ended {
+            put(out, &["; "])?;
+            put_function(out, trace, once)?;
+            put(out, &[" has ended"])?;
+            put_since(out, trace, at, Deed::Ends(once), " ended it")
+        } else if who_at(trace, begin) == goroutine(trace, who) {
+            Ok(())
+        } else {
+            put(out, &["; "])?;
+            put_function(out, trace, once)?;
+            put(
+                out,
+                &[
+                    " was begun by ",
+                    who_at(trace, begin),
+                    ", which alone ends it,",
+                ],
+            )?;
+            put_at(out, trace, " in ", begin, "")
+        },
+        None => {
+            put(out, &["; no event before this one begins "])?;
+            put_function(out, trace, once)
+        }
     }
 }
 
@@ -232,11 +270,12 @@ fn put_not_done<A: Allocator, B: Allocator>(
         Some(_) => {
             put(out, &[" hasn't ended"])?;
             put_since(out, trace, at, Deed::Begins(once), " began it")?;
-            put_later(out, trace, at, Deed::Ends(once), " ends it")
+            let missing = "; an onceend may be missing in between";
+            put_later(out, trace, at, Deed::Ends(once), " ends it", missing)
         }
         None => {
             put(out, &[" hasn't begun: no event before this one begins it"])?;
-            put_later(out, trace, at, Deed::Begins(once), " does")
+            put_later(out, trace, at, Deed::Begins(once), " does", "")
         }
     }
 }

@@ -3,7 +3,7 @@
 use crate::field::{fields_of, put_fields};
 use crate::line::put_quoted;
 use crate::put::{put, put_number, put_number_in};
-use crate::word::bad_column;
+use crate::word::{bad_column, spare_blank};
 use race_text::{cut_at, split_words, word_named};
 use std::alloc::{AllocError, Allocator};
 
@@ -11,7 +11,9 @@ use std::alloc::{AllocError, Allocator};
 pub(crate) fn put_unended<A: Allocator>(out: &mut Vec<u8, A>, line: u64) -> Result<(), AllocError> {
     put(
         out,
-        &["no newline ends the last line: the text may be cut off within it"],
+        &[
+            "no newline ends the last line: the text may be cut off within it; if the line is whole, write a newline too",
+        ],
     )?;
     if line > 1 {
         put_number_in(
@@ -45,28 +47,33 @@ pub(crate) fn put_bad_byte<A: Allocator>(
         0 => ", a zero byte",
         9 => ", a tab",
         13 => if column + 1 == line.len() {
-            ", a carriage return, as Windows ends lines: tr -d '\\r' < FILE | gorace explain"
+            ", a carriage return, as Windows ends lines, though no line before has one: tr -d '\\r' < FILE | gorace explain"
         } else {
             ", a carriage return within the line"
         },
         _ => if byte < 128 {
             ""
         } else {
-            ", of a letter that isn't ASCII"
+            ", a byte of a letter that isn't ASCII"
         },
     };
     put(out, &[what, "; a line has the bytes 32 to 126 alone"])
 }
 
-/// What is said of a first word that begins no line.
+/// What is said of a line whose first word begins no line.
 pub(crate) fn put_unknown_word<A: Allocator>(
     out: &mut Vec<u8, A>,
-    word: &[u8],
+    line: &[u8],
 ) -> Result<(), AllocError> {
+    let (word, rest) = cut_at(line, b' ');
     if word.is_empty() {
         return put(
             out,
-            &["the line is empty or begins with a blank, and no line of a trace does"],
+            &[if rest.is_none() {
+                "the line is empty, and no line of a trace is"
+            } else {
+                "the line begins with a blank, and no line of a trace does"
+            }],
         );
     }
     if word[0] == b'#' || word[0] == b'/' {
@@ -104,22 +111,39 @@ pub(crate) fn put_count<A: Allocator>(out: &mut Vec<u8, A>, line: &[u8]) -> Resu
         return Ok(());
     };
     let fields = fields_of(word);
-    put_number_in(out, "wants ", fields.len() as u64, " words after ")?;
+    let count = fields.len() as u64;
+    put_number_in(
+        out,
+        "wants ",
+        count,
+        if count == 1 {
+            " word after "
+        } else {
+            " words after "
+        },
+    )?;
     put_quoted(out, first)?;
     put(out, &[": "])?;
     put_fields(out, fields.as_slice())?;
     let mut words = 0u64;
-    let mut is_blank = false;
-    for word in split_words(line) {
+    for _ in split_words(line) {
         words = words.saturating_add(1);
-        is_blank = is_blank || word.is_empty();
     }
     put_number_in(out, "; has ", words.saturating_sub(1), "")?;
-    if is_blank {
-        put(
-            out,
-            &[", where a blank at the end or after another begins an empty word"],
-        )?;
-    }
-    Ok(())
+    put_spare_blank(out, line)
+}
+
+// What is said of a blank too many, if there is one.
+fn put_spare_blank<A: Allocator>(out: &mut Vec<u8, A>, line: &[u8]) -> Result<(), AllocError> {
+    let Some(column) = spare_blank(line) else {
+        return Ok(());
+    };
+    put(
+        out,
+        &[if column.saturating_add(1) == line.len() {
+            ", with an empty one after the blank at the end, where no blank is wanted"
+        } else {
+            ", with an empty one between two blanks, where one blank is wanted"
+        }],
+    )
 }

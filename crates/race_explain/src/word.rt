@@ -41,24 +41,40 @@ pub(crate) fn faulty_word<'a, A: Allocator>(
     None
 }
 
-/// Where the first empty word or else the first word too many begins, or the end of the line where there are too few.
+/// Where the first blank too many stands or the first word too many begins; or the end of the line, where words are missing.
 pub(crate) fn count_column(word: Word, line: &[u8]) -> usize {
+    match spare_blank(line) {
+        Some(column) => column.min(end_of_words(word, line)),
+        None => end_of_words(word, line),
+    }
+}
+
+// Where the first word too many begins, or the end of the line where there is none.
+fn end_of_words(word: Word, line: &[u8]) -> usize {
     let mut left = cut_at(line, b' ').1;
-    let mut empty = None;
     for _ in 0..fields_of(word).len() {
         let Some(bytes) = left else {
             return line.len();
         };
-        if empty.is_none() && bytes.starts_with(b" ") {
-            empty = Some(column_in(line, bytes));
-        }
         left = cut_at(bytes, b' ').1;
     }
-    match (left, empty) {
-        (None, _) => line.len(),
-        (Some(_), Some(column)) => column,
-        (Some(bytes), None) => column_in(line, bytes),
+    match left {
+        Some(bytes) => column_in(line, bytes),
+        None => line.len(),
     }
+}
+
+/// Where the first blank stands that comes after another one or ends the line.
+pub(crate) fn spare_blank(line: &[u8]) -> Option<usize> {
+    let mut is_after_blank = false;
+    for column in 0..line.len() {
+        let is_blank = line[column] == b' ';
+        if is_blank && (is_after_blank || column + 1 == line.len()) {
+            return Some(column);
+        }
+        is_after_blank = is_blank;
+    }
+    None
 }
 
 // Where the last bytes of the line begin.

@@ -1,19 +1,18 @@
 -- A run that ends with two accesses that race.
-use Rattle.std.proofs.Common.{◌≡◌, ◌≢◌, ◌==◌, ◌||◌, ◌+◌, ◌≤◌, ℕ, Bool, true, false, cond, IsTrue, IfSome, None, Some, List, [], ◌∷◌}
-use Rattle.std.proofs.Common.{◌++◌, length, take, slice_get, slice_index_or, sym, ap, ◌∙◌, subst, refl, arith, eqb-true, take_all, inl, inr}
-use Rattle.std.proofs.lemmas.{List.{length_push, length-take-le}}
-use Rattle.race_records.specs.{declared.{event.{Event.Event, Op.{Op, TheVariants.Read}}, kind.Kind.Kind, trace.TheConstants.MAX_EVENTS}}
-use Rattle.race_records.specs.{Declarations.{Declaration, DeclsState, count_of}, Operands.op_is_in_range}
-use Rattle.race_records.specs.Events.{TraceState, fits}
-use Rattle.race_model.specs.{Events.{At, gives, partner, takes_part, accesses, writes}, Clocks.participations}
+use Rattle.std.proofs.Common.{◌≡◌, ◌≢◌, ◌==◌, ◌||◌, ◌+◌, ◌<◌, ◌≤◌, ℕ, Bool, true, false, cond, IsTrue, None, Some, List, [], ◌∷◌}
+use Rattle.std.proofs.Common.{◌++◌, length, take, slice_get, sym, ap, ◌∙◌, subst, refl, arith, eqb-true, take_all, inl, inr}
+use Rattle.std.proofs.lemmas.{List.{length_push, length-take-le}, Bool.Decides.nat_tests}
+use Rattle.race_records.specs.{declared.{event.{Event.Event, Op.{Op, TheVariants.{Read, Write}}}, kind.Kind.Kind, trace.TheConstants.MAX_EVENTS}}
+use Rattle.race_records.specs.{Operands.op_is_in_range, Events.TraceState}
+use Rattle.race_model.specs.{Events.{At, gives, takes_part, accesses, writes}, Clocks.participations}
 use Rattle.race_model.specs.Predict.{execution_of, finding, told, AsksTheSame, EndsWithRace}
 use Rattle.race_model.proofs.{ClockLemmas.participations_push, Reaching.who_takes_part}
 use Rattle.race_model.proofs.{Indexes.{append_at_old, slice_get-push, slice_get-take}, PredictLemmas.{filter_push, filter_drop, ends_by}}
-use Rattle.race_legal.{specs.{StandsFor.StandsFor, ReplayState.{ReplayState, IsInRange, counts_in}}, proofs.{Fronts.take_next, RangeLemmas.in_range}}
-use Rattle.race_predict.specs.{declared.{attempt.LastTwo.LastTwo, positions.Position.Position}, Fronts.{IsNext, IsPosition}}
+use Rattle.race_legal.{specs.{StandsFor.StandsFor, ReplayState.{ReplayState, IsInRange}}, proofs.{Fronts.take_next}}
+use Rattle.race_predict.specs.{declared.{attempt.LastTwo.LastTwo}, Fronts.{IsNext}}
 use Rattle.race_predict.specs.{Attempts.{AttemptState, IsAttempt, events_by, run_with}, Certified.{AreKept, IsMadeOf, IsRunWithRace}}
-use Rattle.race_predict.proofs.FrontLemmas.{due_at, asks_front, asks_last, accesses_told, writes_told, access_alone, is_due}
-use Rattle.race_predict.proofs.{FrontLemmas.{partner_told, takes_part_by}, AttemptLemmas.{made_push, rows_from_fits}}
+use Rattle.race_predict.proofs.FrontLemmas.{due_at, asks_front, asks_last, accesses_told, writes_told, access_alone}
+use Rattle.race_predict.proofs.{FrontLemmas.{partner_told, takes_part_by}, AttemptLemmas.{made_push}}
 
 -- the event is what its goroutine did next
 abbrev pub IsDue : TraceState → List ℕ → Event → Type 0
@@ -24,26 +23,19 @@ pub due_from : (recorded : TraceState) (order : List ℕ) (i : ℕ) (e : Event) 
     → IsNext recorded.events (events_by recorded.events order) i e → IsDue recorded order e
 due_from recorded order i e at next = due_at recorded.events (events_by recorded.events order) i e e.who at (who_takes_part e) (next e.who (who_takes_part e))
 
--- whatever a read finds, the event is in the replay's range
-pub told_in_range : (decls : DeclsState) (k : ReplayState) (past : List Event) (e : Event) (v : ℕ) → StandsFor decls.declarations k past
-    → IsTrue (fits decls e) → IsInRange (counts_in k) (told v e)
-told_in_range decls k past e v stands fit = let (who, op) = in_range decls k past e stands fit in (who, by e.op op)
+-- whatever an access finds, it is in the same range
+pub finds_in_range : (counts : Kind → ℕ) (e : Event) (v : ℕ) → IsInRange counts e → IsInRange counts (told v e)
+finds_in_range counts e v (who, op) = (who, by e.op op)
   where
-    by : (o : Op) → IsTrue (op_is_in_range (counts_in k) o) → IsTrue (op_is_in_range (counts_in k) (finding v o))
+    by : (o : Op) → IsTrue (op_is_in_range counts o) → IsTrue (op_is_in_range counts (finding v o))
     by (Read y w) is = is
     by _ is = is
 
-pub vars_are : (declarations : List Declaration) (k : ReplayState) (past : List Event) → StandsFor declarations k past
-    → counts_in k Kind.Var ≡ count_of Kind.Var declarations
-vars_are declarations k past stands = ap (λ (f : Kind → ℕ). f Kind.Var) stands.counts
-
--- what the counts say of an event holds of the events so far
-pub next_from : (recorded : TraceState) (order : List ℕ) (a : AttemptState) (i : ℕ) (e : Event) (p : Position) → IsAttempt recorded order a
-    → IsTrue (fits recorded.decls e) → IsPosition recorded.events i e p → slice_index_or a.taken e.who 0 ≡ p.own
-    → IfSome (partner e.op) (λ g. slice_index_or a.taken g 0 ≡ p.partners) → IsNext recorded.events (events_by recorded.events order) i e
-next_from recorded order a i e p attempt fit pos own others g =
-    let rows = rows_from_fits recorded a.taken e fit attempt.rows in
-    is_due recorded.events (events_by recorded.events order) a.taken i e p attempt.counts pos rows.0 rows.1 own others g
+-- and its variable has a row
+pub var_in_range : (counts : Kind → ℕ) (x : ℕ) (o : Op) → IsTrue (op_is_in_range counts o) → IsTrue (accesses x o) → x < counts Kind.Var
+var_in_range counts x (Read y w) is access = grind (arith, nat_tests)
+var_in_range counts x (Write y w) is access = grind (arith, nat_tests)
+var_in_range counts x _ is access = cc
 
 or_false : (b : Bool) → (b || false) ≡ b
 or_false true = refl

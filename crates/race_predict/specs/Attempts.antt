@@ -1,9 +1,10 @@
 -- A run that is put together event by event.
-use Rattle.std.specs.Prelude.{ℕ, ◌≡◌, [], ◌∷◌, ◌++◌, List, length, slice_get, filter_map}
-use Rattle.race_records.specs.{declared.{event.Event.Event, kind.Kind.Kind}, Declarations.counts_of, Events.TraceState}
-use Rattle.race_model.specs.Predict.{execution_of}
+use Rattle.std.specs.Prelude.{ℕ, ◌≡◌, [], ◌∷◌, ◌++◌, IsTrue, List, length, take, slice_get, filter_map, Some, None}
+use Rattle.race_records.specs.{declared.{event.Event.Event, kind.Kind.Kind}, Declarations.{Declaration, counts_of, capacity_of}, Events.{TraceState, fits}}
+use Rattle.race_model.specs.{Events.At, Legal.broken, Predict.{execution_of}}
 use Rattle.race_legal.specs.{ReplayState.ReplayState, StandsFor.StandsFor}
-use Rattle.race_predict.specs.{declared.attempt.LastTwo.LastTwo, Fronts.{Counts, IsFront}, Certified.{IsMadeOf, AreKept}}
+use Rattle.race_verdict.specs.Traces.{capacities}
+use Rattle.race_predict.specs.{declared.attempt.LastTwo.LastTwo, Fronts.{Counts, IsFront, IsNext}, Certified.{IsMadeOf, AreKept}}
 
 -- the recorded events of these indexes
 abbrev pub events_by : List Event → List ℕ → List Event
@@ -23,7 +24,30 @@ pub record IsAttempt (recorded : TraceState) (order : List ℕ) (a : AttemptStat
   pub made : IsMadeOf recorded.events order (events_by recorded.events order)
   pub kept : AreKept recorded.events order (events_by recorded.events order) (length order)
 
--- the recorded events of these indexes, and the two behind them
+-- the recorded event at index i is what each that takes part in it did next after those of these indexes
+pub record IsNextAt (recorded : TraceState) (order : List ℕ) (i : ℕ) : Type 0 where
+  pub e : Event
+  pub event : At recorded.events i e
+  pub next : IsNext recorded.events (events_by recorded.events order) i e
+
+-- it is this event, which fits, whatever the order of those so far is
+pub record IsFound (recorded : TraceState) (a : AttemptState) (i : ℕ) (e : Event) : Type 0 where
+  pub event : At recorded.events i e
+  pub fit : IsTrue (fits recorded.decls e)
+  pub next : (order : List ℕ) → IsAttempt recorded order a → IsNext recorded.events (events_by recorded.events order) i e
+
+-- the recorded event whose index stands at k can come after those before it: it is next, and breaks no rule
+pub record CanComeNext (recorded : TraceState) (order : List ℕ) (k : ℕ) : Type 0 where
+  pub i : ℕ
+  pub index : slice_get order k ≡ Some i
+  pub found : IsNextAt recorded (take k order) i
+  pub legal : broken (capacities recorded) (events_by recorded.events (take k order)) found.e ≡ None
+
+-- it holds of each list for which the replay stands, with the channels' capacities
+abbrev pub ForEachLegal : ReplayState → ((ℕ → ℕ) → List Event → Type 0) → Type 0
+ForEachLegal k Holds = (declarations : List Declaration) (past : List Event) → StandsFor declarations k past → Holds (capacity_of declarations) past
+
+-- the recorded events of these indexes, and two more
 abbrev pub run_with : TraceState → List ℕ → LastTwo → TraceState
 run_with recorded order last = record {
   decls = recorded.decls;

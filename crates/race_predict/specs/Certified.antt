@@ -33,6 +33,10 @@ pub record IsCertificate (recorded : TraceState) (x : ℕ) (order : List ℕ) (t
   pub kept : AreKept recorded.events order trace.events prediction.ends_with_race.before
   pub limited : length trace.events ≤ MAX_EVENTS
 
+-- no trace shows it
+abbrev pub HasNoCertificate : TraceState → ℕ → List ℕ → Type 0
+HasNoCertificate recorded x order = (other : TraceState) → ¬ IsCertificate recorded x order other
+
 -- the prediction has a certificate
 abbrev pub IsPredicted : {A : Type 0} → TraceState → Prediction A → Type 0
 IsPredicted recorded p = (trace : TraceState) × IsCertificate recorded p.var p.order.items trace

@@ -1,9 +1,12 @@
 //! The certificate of a prediction: a run of the same goroutines, tested event by event.
-ghost use Rattle.std.specs.{Prelude.{◌≡◌, ◌==◌, ◌-◌, ◌++◌, ◌∷◌, [], ℕ, List, length, take, IfOk, OnOk, IfSome, false}, List.list_any};
+ghost use Rattle.std.specs.{Prelude.{◌≡◌, ◌==◌, ◌-◌, ◌++◌, ◌∷◌, [], ℕ, List, length, take}, List.list_any};
+ghost use Rattle.std.specs.Prelude.{Ok, Err, None, IfOk, OnOk, IfSome, true, false};
 ghost use Rattle.race_records.specs.declared.event.Event.{Event};
-ghost use Rattle.race_model.specs.{Race.IsRace, Verdict.IsVerdict};
-ghost use Rattle.race_verdict.specs.{Traces.HasVerdict, Verdicts.verdict_of};
-ghost use Rattle.race_predict.specs.{Attempts.run_with, Certified.{IsCertificate, IsMadeOf, IsPredicted}, Fronts.ArePositions};
+ghost use Rattle.race_model.specs.{Legal.IsLegal, Race.IsRace, Verdict.IsVerdict};
+ghost use Rattle.race_verdict.specs.{Traces.{HasVerdict, capacities}, Verdicts.verdict_of};
+ghost use Rattle.race_predict.specs.declared.fault.PredictFault.{PredictFault};
+ghost use Rattle.race_predict.specs.Certified.{HasNoCertificate, IsCertificate, IsMadeOf, IsPredicted};
+ghost use Rattle.race_predict.specs.{Attempts.run_with, Fronts.ArePositions};
 
 use crate::attempt::{Attempt, LastTwo};
 use crate::fault::PredictFault;
@@ -26,7 +29,11 @@ pub fn certificate<A: Allocator + Copy>(
     prediction: &Prediction<A>,
 ) -> Result<Trace<A>, PredictFault>
     requires { HasVerdict recorded.now (verdict_of verdict.now) }
-    ensures { IfOk result (IsCertificate recorded.now prediction.now.var prediction.now.order.items) }
+    ensures certificate { IfOk result (IsCertificate recorded.now prediction.now.var prediction.now.order.items) }
+
+    // Of a legal trace, `NotAPrediction` says that there is none.
+    ensures refused { result ≡ Err PredictFault.NotAPrediction → IsLegal (capacities recorded.now) recorded.now.events
+        → HasNoCertificate recorded.now prediction.now.var prediction.now.order.items }
 {
     let positions = positions_of(alloc, recorded)?;
     let order = prediction.order.as_slice();
@@ -57,6 +64,10 @@ pub fn tested<A: Allocator + Copy>(
     ensures found { IfOk result (λ found. IfSome found (IsPredicted recorded.now)) }
     ensures var { IfOk result (λ found. IfSome found (λ p. p.var ≡ var)) }
     ensures order { IfOk result (λ found. IfSome found (λ p. p.order ≡ order)) }
+
+    // Of a legal trace, where there is none there is no certificate.
+    ensures none { result ≡ Ok None → IsLegal (capacities recorded.now) recorded.now.events
+        → HasNoCertificate recorded.now var order.items }
 {
     match test(alloc, recorded, verdict, positions, var, order.as_slice()) {
         Ok(_) => Ok(Some(Prediction { var, order })),
@@ -67,8 +78,10 @@ pub fn tested<A: Allocator + Copy>(
 
 // Whether the verdict names a race on the variable, or tells of none because the trace is illegal.
 fn may_race<A: Allocator>(verdict: &Verdict<A>, var: u32) -> bool
-    ensures { result ≡ false → (caps : ℕ → ℕ) (events : List Event) → IsVerdict caps events (verdict_of verdict.now)
+    ensures none { result ≡ false → (caps : ℕ → ℕ) (events : List Event) → IsVerdict caps events (verdict_of verdict.now)
         → (i j : ℕ) → ¬ IsRace caps events var i j }
+    ensures one { result ≡ true → (caps : ℕ → ℕ) (events : List Event) → IsVerdict caps events (verdict_of verdict.now)
+        → IsLegal caps events → ((i : ℕ) × ((j : ℕ) × IsRace caps events var i j)) }
 {
     match verdict {
         Verdict::Illegal(_) => true,
@@ -94,10 +107,15 @@ fn test<A: Allocator + Copy>(
 ) -> Result<LastTwo, PredictFault>
     requires verdict { HasVerdict recorded.now (verdict_of verdict.now) }
     requires positions { ArePositions recorded.now.events (length recorded.now.events) positions.now }
-    ensures { IfOk result (λ last. IsCertificate recorded.now var order.now
+    ensures run { IfOk result (λ last. IsCertificate recorded.now var order.now
         (run_with recorded.now (take (length order.now - 2) order.now) last)) }
+    ensures refused { result ≡ Err PredictFault.NotAPrediction → IsLegal (capacities recorded.now) recorded.now.events
+        → HasNoCertificate recorded.now var order.now }
 {
-    if may_race(verdict, var) || order.len() < 2 || order.len() > MAX_EVENTS {
+    if may_race(verdict, var) {
+        return Err(PredictFault::NotAPrediction);
+    }
+    if order.len() < 2 || order.len() > MAX_EVENTS {
         return Err(PredictFault::NotAPrediction);
     }
     let before = order.len() - 2;

@@ -1,5 +1,5 @@
 //! Which event of its goroutine an event is.
-ghost use Rattle.std.specs.Prelude.{◌≡◌, ◌<◌, length, IsTrue, IfSome, IfOk, slice_get, Some};
+ghost use Rattle.std.specs.Prelude.{◌≡◌, ◌<◌, length, IsTrue, IfSome, IfOk, slice_get, Some, false};
 ghost use Rattle.std.specs.List.{slice_index_or};
 ghost use Rattle.race_model.specs.Events.{partner};
 ghost use Rattle.race_predict.specs.Fronts.{ArePositions};
@@ -68,6 +68,8 @@ pub(crate) fn is_next<A: Allocator>(counts: &Vec<u32, A>, position: Position, ev
     ensures own { IsTrue result → slice_index_or counts.now.items event.now.who 0 ≡ position.own }
     ensures partners { IsTrue result → IfSome (partner event.now.op)
         (λ g. slice_index_or counts.now.items g 0 ≡ position.partners) }
+    ensures otherwise { result ≡ false → slice_index_or counts.now.items event.now.who 0 ≡ position.own
+        → ¬ IfSome (partner event.now.op) (λ g. slice_index_or counts.now.items g 0 ≡ position.partners) }
 {
     if counts[event.who as usize] != position.own {
         return false;

@@ -1,51 +1,45 @@
-use Rattle.std.proofs.Common.{◌≡◌, IfSome, length, take, get_or, slice_index_or, ap, subst, sym, ◌∙◌, arith}
+use Rattle.std.proofs.Common.{take, get_or, arith}
 use Rattle.std.proofs.lemmas.{List.length-take-le, Option.slice_get-get_or}
-use Rattle.race_model.specs.Events.{partner}
 use Rattle.race_legal.proofs.RangeLemmas.{in_range}
-use Rattle.race_predict.specs.{Attempts.{AttemptState, events_by}, Fronts.counted}
-use Rattle.race_predict.proofs.AttemptLemmas.{rows_from_fits, goes_on}
-use Rattle.race_legal.specs.StandsFor.{StandsFor, GoesOn}
+use Rattle.race_predict.specs.Attempts.{events_by}
+use Rattle.race_predict.proofs.AttemptLemmas.{rows_from_fits, more_on_ok, goes_on, not_next, not_legal}
 use Rattle.race_predict.proofs.attempt.Attempt.add.Goals as goal
 
-pub is_next-requires-clause-who : goal.is_next-requires-clause-who
-is_next-requires-clause-who g c = (rows_from_fits c.args.recorded.now c.self.inside.taken.items c.event-event.result.now c.event-event.ensures.fits (ap (λ (a : AttemptState). length a.taken) c.self.view_is ∙ c.requires.attempt.rows)).0
+pub take-requires-clause-range : goal.take-requires-clause-range
+take-requires-clause-range g c =
+    in_range c.args.recorded.now.decls c.args.self.now.replay (events_by c.args.recorded.now.events (take c.args.k c.args.order.now)) c.in-Some.event.now
+    c.requires.attempt.stands c.in-Some.ensures.found.fit
 
-pub is_next-requires-clause-partner : goal.is_next-requires-clause-partner
-is_next-requires-clause-partner g c = (rows_from_fits c.args.recorded.now c.self.inside.taken.items c.event-event.result.now c.event-event.ensures.fits (ap (λ (a : AttemptState). length a.taken) c.self.view_is ∙ c.requires.attempt.rows)).1
+pub take-requires-clause-who : goal.take-requires-clause-who
+take-requires-clause-who g c =
+    (rows_from_fits c.args.recorded.now c.args.self.now.taken c.in-Some.event.now c.in-Some.ensures.found.fit c.requires.attempt.rows).0
 
-pub accept-requires-clause-range : goal.accept-requires-clause-range
-accept-requires-clause-range g c =
-    in_range c.args.recorded.now.decls c.self.inside.replay (events_by c.args.recorded.now.events (take c.args.k c.args.order.now)) c.event-event.result.now
-    (subst (λ (a : AttemptState). StandsFor c.args.recorded.now.decls.declarations a.replay (events_by c.args.recorded.now.events (take c.args.k c.args.order.now)))
-    (sym c.self.view_is) c.requires.attempt.stands) c.event-event.ensures.fits
+pub take-requires-clause-partner : goal.take-requires-clause-partner
+take-requires-clause-partner g c =
+    (rows_from_fits c.args.recorded.now c.args.self.now.taken c.in-Some.event.now c.in-Some.ensures.found.fit c.requires.attempt.rows).1
 
-pub accept-requires-clause-room : goal.accept-requires-clause-room
-accept-requires-clause-room g c =
+pub take-requires-clause-room : goal.take-requires-clause-room
+take-requires-clause-room g c =
     let len = c.requires.attempt.stands.len in
     let many = c.requires.attempt.made.as_many in
     let k = c.requires.k in
     let room = c.requires.room in
     let front = length-take-le c.args.k c.args.order.now (omega (arith, k)) in
-    let view = ap (λ (a : AttemptState). a.replay.len) c.self.view_is in
-    omega (arith, len, many, k, room, front, view)
+    omega (arith, len, many, k, room, front)
 
-pub count_parts-requires-clause-who : goal.count_parts-requires-clause-who
-count_parts-requires-clause-who g c = (rows_from_fits c.args.recorded.now c.self.inside.taken.items c.event-event.result.now c.event-event.ensures.fits (ap (λ (a : AttemptState). length a.taken) c.self.view_is ∙ c.requires.attempt.rows)).0
-
-pub count_parts-requires-clause-partner : goal.count_parts-requires-clause-partner
-count_parts-requires-clause-partner g c = (rows_from_fits c.args.recorded.now c.self.inside.taken.items c.event-event.result.now c.event-event.ensures.fits (ap (λ (a : AttemptState). length a.taken) c.self.view_is ∙ c.requires.attempt.rows)).1
-
-pub returns : goal.returns
-returns g c =
-    let e = c.event-event.result.now in
+pub returns-in-Some-clause-attempt : goal.returns-in-Some-clause-attempt
+returns-in-Some-clause-attempt g c =
     let order = c.args.order.now in
-    let p = c.position_at-position.result in
-    goes_on c.args.recorded.now order c.args.k (get_or order c.args.k 0) e p c.args.self.now _ c.requires.attempt
-    (slice_get-get_or order c.args.k 0 c.requires.k) c.event-event.ensures.event c.event-event.ensures.fits
-    (c.requires.positions.each (get_or order c.args.k 0) e p c.event-event.ensures.event c.position_at-position.ensures)
-    (ap (λ (a : AttemptState). slice_index_or a.taken e.who 0) (sym c.self.view_is) ∙ c.is_next.ensures.own c.if-not-is_next.false)
-    (subst (λ (a : AttemptState). IfSome (partner e.op) (λ g. slice_index_or a.taken g 0 ≡ p.partners)) c.self.view_is
-    (c.is_next.ensures.partners c.if-not-is_next.false))
-    c.requires.room
-    (subst (λ (a : AttemptState). GoesOn a.replay c.accept.new.replay e) c.self.view_is c.in_ok-accept.ensures.goes_on)
-    (c.count_parts.ensures ∙ ap (λ xs. counted xs e.who (partner e.op)) (ap (λ (a : AttemptState). a.taken) c.self.view_is))
+    more_on_ok c.take.result _ _ _
+    (goes_on c.args.recorded.now order c.args.k (get_or order c.args.k 0) c.in-Some.event.now c.args.self.now c.take.new.self c.requires.attempt
+    (slice_get-get_or order c.args.k 0 c.requires.k) c.in-Some.ensures.found c.requires.room) c.take.ensures.goes_on c.take.ensures.taken
+
+pub returns-in-Some-clause-refused : goal.returns-in-Some-clause-refused
+returns-in-Some-clause-refused g c = λ is.
+    not_legal c.args.recorded.now c.args.order.now c.args.k (get_or c.args.order.now c.args.k 0) c.in-Some.event.now c.args.self.now c.requires.attempt
+    (slice_get-get_or c.args.order.now c.args.k 0 c.requires.k) c.in-Some.ensures.found.event (c.take.ensures.refused is)
+
+pub returns-in-None-clause-refused : goal.returns-in-None-clause-refused
+returns-in-None-clause-refused g c = λ is.
+    not_next c.args.recorded.now c.args.order.now c.args.k (get_or c.args.order.now c.args.k 0) (slice_get-get_or c.args.order.now c.args.k 0 c.requires.k)
+    (c.next_at.ensures.none c.in-None.is (take c.args.k c.args.order.now) c.requires.attempt)

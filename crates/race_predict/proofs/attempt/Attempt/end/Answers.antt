@@ -1,109 +1,60 @@
-use Rattle.std.proofs.Common.{◌≡◌, ℕ, ◌+◌, [], ◌∷◌, ◌++◌, IfSome, take, get_or, slice_index_or, ap, sym, subst, ◌∙◌, length, refl, arith}
-use Rattle.std.proofs.lemmas.{List.length-take-le, Option.slice_get-get_or}
-use Rattle.race_model.specs.{Events.partner, Predict.told}
-use Rattle.race_legal.specs.{StandsFor.StandsFor, ReplayState.IsInRange}
-use Rattle.race_records.specs.{declared.kind.Kind.Kind, Declarations.{DeclsState, count_of}}
-use Rattle.race_predict.specs.Attempts.{AttemptState, events_by}
-use Rattle.race_predict.proofs.{AttemptLemmas.rows_from_fits, EndLemmas.{next_from, ended_by, told_in_range, vars_are}}
+use Rattle.std.proofs.Common.{◌≡◌, ◌+◌, Err, take, get_or, refl, rules}
+use Rattle.race_predict.specs.declared.fault.PredictFault.{PredictFault}
+use Rattle.race_predict.proofs.{EndLemmas.ended_by, NextLemmas.found_in_range}
+use Rattle.race_predict.proofs.RefusalLemmas.{at_first, at_second, first_next, second_next, no_conflict, first_refused, second_refused}
 use Rattle.race_predict.proofs.attempt.Attempt.end.Goals as goal
 
-pub is_next-requires-clause-who : goal.is_next-requires-clause-who
-is_next-requires-clause-who g c = (rows_from_fits c.args.recorded.now c.self.inside.taken.items c.event-first.result.now c.event-first.ensures.fits (ap (λ (a : AttemptState). length a.taken) c.self.view_is ∙ c.requires.attempt.rows)).0
+pub returns-in_default-clause-refused : goal.returns-in_default-clause-refused
+returns-in_default-clause-refused g c = λ is other run.
+    c.next_at.ensures.none c.in_default.is (take c.args.k c.args.order.now) c.requires.attempt
+    (first_next c.args.recorded.now c.args.var c.args.order.now other run c.args.k c.requires.k)
 
-pub is_next-requires-clause-partner : goal.is_next-requires-clause-partner
-is_next-requires-clause-partner g c = (rows_from_fits c.args.recorded.now c.self.inside.taken.items c.event-first.result.now c.event-first.ensures.fits (ap (λ (a : AttemptState). length a.taken) c.self.view_is ∙ c.requires.attempt.rows)).1
+pub returns-in_default-next_at-clause-refused : goal.returns-in_default-next_at-clause-refused
+returns-in_default-next_at-clause-refused g c = λ is other run.
+    c.next_at-2.ensures.none c.in_default-next_at.is (take c.args.k c.args.order.now) c.requires.attempt
+    (second_next c.args.recorded.now c.args.var c.args.order.now other run c.args.k c.requires.k)
 
-pub is_next-requires-else-not-is_next-clause-who : goal.is_next-requires-else-not-is_next-clause-who
-is_next-requires-else-not-is_next-clause-who g c = (rows_from_fits c.args.recorded.now c.self.inside.taken.items c.event-second.result.now c.event-second.ensures.fits (ap (λ (a : AttemptState). length a.taken) c.self.view_is ∙ c.requires.attempt.rows)).0
+pub returns-then-not-do_conflict-clause-refused : goal.returns-then-not-do_conflict-clause-refused
+returns-then-not-do_conflict-clause-refused g c = λ is other run.
+    no_conflict c.args.recorded.now c.args.var c.args.order.now other run c.args.k c.requires.k c.in-Some.first.now c.in-Some-next_at.second.now
+    c.in-Some.ensures.found.event c.in-Some-next_at.ensures.found.event (c.do_conflict.ensures.otherwise c.if-not-do_conflict.true)
 
-pub is_next-requires-else-not-is_next-clause-partner : goal.is_next-requires-else-not-is_next-clause-partner
-is_next-requires-else-not-is_next-clause-partner g c = (rows_from_fits c.args.recorded.now c.self.inside.taken.items c.event-second.result.now c.event-second.ensures.fits (ap (λ (a : AttemptState). length a.taken) c.self.view_is ∙ c.requires.attempt.rows)).1
+pub accept_found-requires-clause-range : goal.accept_found-requires-clause-range
+accept_found-requires-clause-range g c =
+    found_in_range c.args.recorded.now (take c.args.k c.args.order.now) c.args.self.now _ c.in-Some.first.now c.args.self.now.replay refl
+    c.requires.attempt c.in-Some.ensures.found
 
-pub accept_told-requires-clause-range : goal.accept_told-requires-clause-range
-accept_told-requires-clause-range g c = λ v.
-    told_in_range c.args.recorded.now.decls c.self.inside.replay (events_by c.args.recorded.now.events (take c.args.k c.args.order.now)) c.event-first.result.now v
-    (subst (λ (a : AttemptState). StandsFor c.args.recorded.now.decls.declarations a.replay (events_by c.args.recorded.now.events (take c.args.k c.args.order.now)))
-    (sym c.self.view_is) c.requires.attempt.stands) c.event-first.ensures.fits
+pub returns-in_err-first-clause-refused : goal.returns-in_err-first-clause-refused
+returns-in_err-first-clause-refused g c = λ is other run.
+    let refused : c.accept_found.result ≡ Err PredictFault.NotAPrediction = search rules in
+    first_refused c.args.recorded.now c.args.var c.args.order.now other run c.args.k c.requires.k c.in-Some.first.now c.in-Some-next_at.second.now
+    c.in-Some.ensures.found.event c.in-Some-next_at.ensures.found.event
+    (c.accept_found.ensures.refused refused c.args.recorded.now.decls.declarations _ c.requires.attempt.stands)
 
-pub accept_told-requires-clause-var : goal.accept_told-requires-clause-var
-accept_told-requires-clause-var g c =
-    let counts = vars_are c.args.recorded.now.decls.declarations c.self.inside.replay (events_by c.args.recorded.now.events (take c.args.k c.args.order.now))
-    (subst (λ (a : AttemptState). StandsFor c.args.recorded.now.decls.declarations a.replay (events_by c.args.recorded.now.events (take c.args.k c.args.order.now)))
-    (sym c.self.view_is) c.requires.attempt.stands) in
-    let less = c.if-var-count.false in
-    let is = c.count.ensures.count in
-    let decls = ap (λ (d : DeclsState). count_of Kind.Var d.declarations) c.decls.ensures.decls in
-    omega (arith, counts, less, is, decls)
+pub accept_found-requires-2-clause-range : goal.accept_found-requires-2-clause-range
+accept_found-requires-2-clause-range g c =
+    found_in_range c.args.recorded.now (take c.args.k c.args.order.now) c.args.self.now _ c.in-Some-next_at.second.now c.accept_found.new.self.replay
+    c.accept_found.ensures.counts c.requires.attempt c.in-Some-next_at.ensures.found
 
-pub accept_told-requires-clause-room : goal.accept_told-requires-clause-room
-accept_told-requires-clause-room g c =
-    let len = c.requires.attempt.stands.len in
-    let many = c.requires.attempt.made.as_many in
-    let k = c.requires.k in
-    let room = c.requires.room in
-    let front = length-take-le c.args.k c.args.order.now (omega (arith, k)) in
-    let view = ap (λ (a : AttemptState). a.replay.len) c.self.view_is in
-    omega (arith, len, many, k, room, front, view)
+pub returns-in_err-second-clause-refused : goal.returns-in_err-second-clause-refused
+returns-in_err-second-clause-refused g c = λ is other run.
+    let refused : c.accept_found-2.result ≡ Err PredictFault.NotAPrediction = search rules in
+    let (u, told) = c.in_ok-first.ensures.told in
+    let stands = c.in_ok-first.ensures.goes_on _ _ c.requires.attempt.stands in
+    second_refused c.args.recorded.now c.args.var c.args.order.now other run c.args.k c.requires.k c.in-Some.first.now c.in-Some-next_at.second.now
+    c.in-Some.ensures.found.event c.in-Some-next_at.ensures.found.event c.in_ok-first.first u told stands.legal
+    (c.accept_found-2.ensures.refused refused _ _ stands)
 
-pub accept_told-requires-2-clause-range : goal.accept_told-requires-2-clause-range
-accept_told-requires-2-clause-range g c = λ v.
-    subst (λ (counts : Kind → ℕ). IsInRange counts (told v c.event-second.result.now)) (sym c.accept_told.ensures.counts)
-    (told_in_range c.args.recorded.now.decls c.self.inside.replay (events_by c.args.recorded.now.events (take c.args.k c.args.order.now)) c.event-second.result.now v
-    (subst (λ (a : AttemptState). StandsFor c.args.recorded.now.decls.declarations a.replay (events_by c.args.recorded.now.events (take c.args.k c.args.order.now)))
-    (sym c.self.view_is) c.requires.attempt.stands) c.event-second.ensures.fits)
-
-pub accept_told-requires-2-clause-var : goal.accept_told-requires-2-clause-var
-accept_told-requires-2-clause-var g c =
-    let counts = vars_are c.args.recorded.now.decls.declarations c.self.inside.replay (events_by c.args.recorded.now.events (take c.args.k c.args.order.now))
-    (subst (λ (a : AttemptState). StandsFor c.args.recorded.now.decls.declarations a.replay (events_by c.args.recorded.now.events (take c.args.k c.args.order.now)))
-    (sym c.self.view_is) c.requires.attempt.stands) in
-    let less = c.if-var-count.false in
-    let is = c.count.ensures.count in
-    let decls = ap (λ (d : DeclsState). count_of Kind.Var d.declarations) c.decls.ensures.decls in
-    let same = ap (λ (f : Kind → ℕ). f Kind.Var) c.accept_told.ensures.counts in
-    omega (arith, counts, less, is, decls, same)
-
-pub accept_told-requires-2-clause-room : goal.accept_told-requires-2-clause-room
-accept_told-requires-2-clause-room g c =
-    let len = c.requires.attempt.stands.len in
-    let many = c.requires.attempt.made.as_many in
-    let k = c.requires.k in
-    let room = c.requires.room in
-    let front = length-take-le c.args.k c.args.order.now (omega (arith, k)) in
-    let view = ap (λ (a : AttemptState). a.replay.len) c.self.view_is in
-    let more = c.in_ok-first.ensures.len in
-    omega (arith, len, many, k, room, front, view, more)
-
-pub returns : goal.returns
-returns g c =
-    let e = c.event-first.result.now in
-    let f = c.event-second.result.now in
+pub returns-clause-run : goal.returns-clause-run
+returns-clause-run g c =
     let order = c.args.order.now in
-    let i = get_or order c.args.k 0 in
-    let j = get_or order (c.args.k + 1) 0 in
-    let p = c.position_at-before.result in
-    let q = c.position_at-behind.result in
     let (v, first) = c.in_ok-first.ensures.told in
     let (w, second) = c.in_ok-second.ensures.told in
-    let past = (events_by c.args.recorded.now.events (take c.args.k c.args.order.now)) in
-    ended_by c.args.recorded.now c.args.var v w (take c.args.k order) c.args.self.now i j e f c.requires.attempt c.event-first.ensures.event
-    c.event-second.ensures.event
-    (next_from c.args.recorded.now (take c.args.k order) c.args.self.now i e p c.requires.attempt c.event-first.ensures.fits
-    (c.requires.positions.each i e p c.event-first.ensures.event c.position_at-before.ensures)
-    (ap (λ (a : AttemptState). slice_index_or a.taken e.who 0) (sym c.self.view_is) ∙ c.is_next.ensures.own c.if-not-is_next.false)
-    (subst (λ (a : AttemptState). IfSome (partner e.op) (λ g. slice_index_or a.taken g 0 ≡ p.partners)) c.self.view_is
-    (c.is_next.ensures.partners c.if-not-is_next.false)))
-    (next_from c.args.recorded.now (take c.args.k order) c.args.self.now j f q c.requires.attempt c.event-second.ensures.fits
-    (c.requires.positions.each j f q c.event-second.ensures.event c.position_at-behind.ensures)
-    (ap (λ (a : AttemptState). slice_index_or a.taken f.who 0) (sym c.self.view_is) ∙ c.is_next-else-not-is_next.ensures.own c.if-not-is_next-2.false)
-    (subst (λ (a : AttemptState). IfSome (partner f.op) (λ g. slice_index_or a.taken g 0 ≡ q.partners)) c.self.view_is
-    (c.is_next-else-not-is_next.ensures.partners c.if-not-is_next-2.false)))
+    ended_by c.args.recorded.now c.args.var v w (take c.args.k order) c.args.self.now (get_or order c.args.k 0) (get_or order (c.args.k + 1) 0) c.in-Some.first.now
+    c.in-Some-next_at.second.now c.requires.attempt c.in-Some.ensures.found.event c.in-Some-next_at.ensures.found.event
+    (c.in-Some.ensures.found.next (take c.args.k order) c.requires.attempt) (c.in-Some-next_at.ensures.found.next (take c.args.k order) c.requires.attempt)
     (c.do_conflict.ensures.first c.if-not-do_conflict.false) (c.do_conflict.ensures.second c.if-not-do_conflict.false)
-    (c.do_conflict.ensures.two_goroutines c.if-not-do_conflict.false) c.args.k order c.accept_told-2.new.replay refl c.requires.k c.requires.room
-    (slice_get-get_or order c.args.k 0 (let k = c.requires.k in omega (arith, k)))
-    (slice_get-get_or order (c.args.k + 1) 0 (let k = c.requires.k in omega (arith, k)))
+    (c.do_conflict.ensures.two_goroutines c.if-not-do_conflict.false) c.args.k order c.accept_found-2.new.self.replay refl c.requires.k c.requires.room
+    (at_first order c.args.k c.requires.k) (at_second order c.args.k c.requires.k)
     (c.do_conflict.ensures.write c.if-not-do_conflict.false) (record { first = c.in_ok-first.first; second = c.in_ok-second.second }) first second
-    (c.in_ok-second.ensures.goes_on c.args.recorded.now.decls.declarations (past ++ c.in_ok-first.first ∷ [])
-    (c.in_ok-first.ensures.goes_on c.args.recorded.now.decls.declarations past
-    (subst (λ (a : AttemptState). StandsFor c.args.recorded.now.decls.declarations a.replay (events_by c.args.recorded.now.events (take c.args.k c.args.order.now)))
-    (sym c.self.view_is) c.requires.attempt.stands)))
+    (c.in_ok-second.ensures.goes_on _ _ (c.in_ok-first.ensures.goes_on _ _ c.requires.attempt.stands))

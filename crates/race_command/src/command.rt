@@ -8,6 +8,7 @@ use crate::exploring::explore;
 use crate::help;
 use crate::number::{number_in, picks_in};
 use crate::predicting::predict;
+use crate::reading::explained;
 use crate::showing::{shown_variable, witness};
 use clap::error::ErrorKind;
 use clap::{Arg, ArgAction, ArgMatches, Command, Error};
@@ -79,8 +80,10 @@ impl Numbered {
 pub(crate) fn parse<'a, S: AsStr>(alloc: Global, words: &'a [S]) -> Result<Request, Error>
     ensures limits { IfOk result (λ request. IsTrue (is_in_limits request)) }
 {
-    let matches = matches_of(alloc, words)?;
-    request_in(alloc, &matches)
+    match matches_of(alloc, words) {
+        Ok(matches) => request_in(alloc, &matches),
+        Err(error) => Err(explained(alloc, words, error)?),
+    }
 }
 
 fn matches_of<'a, S: AsStr>(alloc: Global, words: &'a [S]) -> Result<ArgMatches<'a>, Error> {
@@ -142,6 +145,19 @@ fn gorace<'a>(alloc: Global) -> Result<Command<'a>, AllocError> {
     let command = with_subcommand(command, witness(alloc))?;
     let command = with_subcommand(command, draw(alloc))?;
     with_subcommand(command, predict(alloc))
+}
+
+/// The command of this name, if it reads standard input and takes no name.
+pub(crate) fn reader<'a>(alloc: Global, name: &str) -> Result<Option<Command<'a>>, AllocError> {
+    Ok(match name {
+        "check" => Some(check(alloc)?),
+        "explain" => Some(explain(alloc)),
+        "edges" => Some(edges(alloc)),
+        "run" => Some(run(alloc)?),
+        "race" => Some(race(alloc)?),
+        "explore" => Some(explore(alloc)?),
+        _ => None,
+    })
 }
 
 // The command, with this one below it.

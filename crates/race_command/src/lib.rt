@@ -8,6 +8,7 @@ mod help;
 mod number;
 mod predicting;
 mod program;
+mod reading;
 mod showing;
 
 pub use program::run;

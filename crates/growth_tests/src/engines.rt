@@ -24,7 +24,7 @@ enum Judging {
 #[derive(Clone, Copy)]
 enum Engine {
     Check(Judging),
-    /// Of this text, by so many shards, which are handed one event at a time, where a read gives few bytes.
+    /// Of this text, by so many threads, which judge one event at a time, where a read gives few bytes.
     CheckPieces(&'static [u8], usize),
     Edges,
     /// By so many workers, or without any by picks.
@@ -182,8 +182,8 @@ fn is_written(output: &[u8], len: usize, written: Written) -> bool {
     }
 }
 
-// The status of a check by so many shards, which are handed one event at a time.
-fn run_check_in_pieces<R: Threads + Wait + Sync, A: Allocator + Copy + Send, W: Write>(
+// The status of a check by so many threads, which judge one event at a time.
+fn run_check_in_pieces<R: Threads + Wait + Sync, A: Allocator + Copy + Send + Sync, W: Write>(
     rt: &R,
     alloc: A,
     bytes: &'static [u8],
@@ -200,7 +200,7 @@ fn run_check_in_pieces<R: Threads + Wait + Sync, A: Allocator + Copy + Send, W: 
 }
 
 // The status.
-fn run<R: Threads + Wait + Sync, A: Allocator + Copy + Send>(
+fn run<R: Threads + Wait + Sync, A: Allocator + Copy + Send + Sync>(
     rt: &R,
     alloc: A,
     engine: Engine,
@@ -259,8 +259,8 @@ impl Growing for Row {
 }
 
 // The judge by one shard takes eight lists: four of the replay, for goroutines and variables, the list of shards, one for
-// the shard's clocks, one for what is kept of its variables, and the races, which a verdict takes once more. A second shard
-// takes two of its own. What is kept of a line that comes in pieces grows twice, and there are two lists of events then. The
+// the shard's clocks, one for what is kept of its variables, and the races, which a verdict takes once more. A check by two
+// threads takes a list of what is read ahead. A second shard takes two of its own. What is kept of a line that comes in pieces grows twice, and there are two lists of events then. The
 // log of each of a run's two goroutines takes three. A judged run takes what the run takes, and then what its judge does.
 // Workers take a copy of the declarations besides. A witness takes four lists more for another replay, one for the clocks of
 // each of three walks, and one for its order. A drawing takes what the judge by one shard takes, six lists for its edges, one
@@ -269,7 +269,7 @@ impl Growing for Row {
 // document is a list more, which grows three times.
 static ENGINES: [(Row, u64); 14] = [
     (Row(Engine::Check(Judging::Shards(1)), CHECKED), 23),
-    (Row(Engine::Check(Judging::Shards(2)), CHECKED), 25),
+    (Row(Engine::Check(Judging::Shards(2)), CHECKED), 24),
     (Row(Engine::CheckPieces(TRACE, 1), CHECKED), 26),
     (Row(Engine::Check(Judging::Plain), CHECKED), 26),
     (Row(Engine::Edges, LISTED), 21),

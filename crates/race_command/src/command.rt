@@ -217,13 +217,13 @@ fn with_check_options<'a>(alloc: Global, command: Command<'a>) -> Result<Command
             alloc,
             "shards",
             "N",
-            "How many shards share the variables among them, each past the first on a thread of its own, 1 to 64 [default: 1]",
+            "How many threads share the work, 1 to 64 [default: 1]",
         ))?
         .arg(option(
             alloc,
             "block",
             "N",
-            "How many events several shards are handed at a time, 1 to 65536 [default: 65536]",
+            "How many events several threads judge at a time, 1 to 65536 [default: 65536]",
         ))?
         .arg(plain)
 }

@@ -259,8 +259,8 @@ impl Growing for Row {
 }
 
 // The judge by one shard takes eight lists: four of the replay, for goroutines and variables, the list of shards, one for
-// the shard's clocks, one for what is kept of its variables, and the races, which a verdict takes once more. A check by two
-// threads takes a list of what is read ahead. A second shard takes two of its own. What is kept of a line that comes in pieces grows twice, and there are two lists of events then. The
+// the shard's clocks, one for what is kept of its variables, and the races, which a verdict takes once more. A second shard
+// takes two of its own. What is kept of a line that comes in pieces grows twice, and there are two lists of events then. The
 // log of each of a run's two goroutines takes three. A judged run takes what the run takes, and then what its judge does.
 // Workers take a copy of the declarations besides. A witness takes four lists more for another replay, one for the clocks of
 // each of three walks, and one for its order. A drawing takes what the judge by one shard takes, six lists for its edges, one
@@ -269,7 +269,7 @@ impl Growing for Row {
 // document is a list more, which grows three times.
 static ENGINES: [(Row, u64); 14] = [
     (Row(Engine::Check(Judging::Shards(1)), CHECKED), 23),
-    (Row(Engine::Check(Judging::Shards(2)), CHECKED), 24),
+    (Row(Engine::Check(Judging::Shards(2)), CHECKED), 23),
     (Row(Engine::CheckPieces(TRACE, 1), CHECKED), 26),
     (Row(Engine::Check(Judging::Plain), CHECKED), 26),
     (Row(Engine::Edges, LISTED), 21),

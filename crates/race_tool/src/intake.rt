@@ -8,10 +8,10 @@ ghost use Rattle.race_tool.specs.Streams as spec;
 
 use crate::handed::{Handed, Judging};
 use crate::input::{MAX_TURNS, ReadFault, blank_block, set_memory_apart};
-use crate::round::{feed_round, lists_ahead};
+use crate::round::{Ahead, feed_round};
 use race_records::Source;
 use race_shards::Judge;
-use race_text::{EventStream, Fed, LineAhead, TextFault};
+use race_text::{EventStream, Fed, TextFault};
 use std::alloc::{AllocError, Allocator};
 use std::io::Read;
 use std::sync::Wait;
@@ -31,8 +31,7 @@ pub(crate) struct JudgedStream<A: Allocator> {
 #[derive(Drop)]
 struct Intake<A: Allocator> {
     block: Vec<u8, A>,
-    // What each thread reads ahead: a list for each, and none where one thread reads.
-    ahead: Vec<Vec<LineAhead, A>, A>,
+    ahead: Ahead<A>,
     reader: Fed<EventStream<A>, A>,
     turns: u64,
     // How many events are read before they are handed on.
@@ -53,7 +52,7 @@ pub(crate) fn read_judged<T: Threads + Wait + Sync, R: Read, A: Allocator + Copy
     let Ok(block) = blank_block(alloc, judging.block_size()) else {
         return Err(ReadFault::OutOfMemory);
     };
-    let Ok(ahead) = lists_ahead(alloc, judging.threads) else {
+    let Ok(ahead) = Ahead::new(alloc, judging.threads) else {
         return Err(ReadFault::OutOfMemory);
     };
     let mut handed = Handed::new(alloc, judging);
@@ -164,7 +163,7 @@ impl<A: Allocator + Copy + Send + Sync> Intake<A> {
                 source,
                 self.block.as_mut_slice(),
                 &mut self.reader,
-                self.ahead.as_mut_slice(),
+                &mut self.ahead,
             ) {
                 Ok(Ok(true)) => self.turns += 1,
                 Ok(Ok(false)) => return Ok(Ok(false)),

@@ -13,28 +13,49 @@ use std::io::Read;
 use std::thread;
 use std::thread::Threads;
 
-// Fewer bytes are read sooner than threads are started.
-const MANY: usize = 131_072;
+// Fewer bytes are read sooner than a thread is started for them.
+const PART: usize = 65_536;
 
-/// A list for each of the threads but the one that judges. There is none for one thread.
-pub(crate) fn lists_ahead<A: Allocator + Copy>(
-    alloc: A,
-    threads: usize,
-) -> Result<Vec<Vec<LineAhead, A>, A>, AllocError> {
-    let mut lists = Vec::new(alloc);
-    for _ in 1..threads {
-        lists.push(Vec::new(alloc))?;
-    }
-    Ok(lists)
+// For so many blocks nothing is read ahead where that was of little use.
+const PAUSE: u32 = 16;
+
+/// What threads read ahead.
+#[derive(Drop)]
+pub(crate) struct Ahead<A: Allocator> {
+    /// A list for each of them.
+    lists: Vec<Vec<LineAhead, A>, A>,
+    /// For how many blocks nothing more is read ahead.
+    pause: u32,
 }
 
-/// Reads once, and feeds what was read, as `feed_block` does. There are as many threads as there are lists.
+impl<A: Allocator + Copy> Ahead<A> {
+    /// A list for each of the threads but the one that judges. There is none where only one is left, which reads each line
+    /// when it takes it.
+    pub(crate) fn new(alloc: A, threads: usize) -> Result<Ahead<A>, AllocError> {
+        let mut lists = Vec::new(alloc);
+        if threads > 2 {
+            for _ in 1..threads {
+                lists.push(Vec::new(alloc))?;
+            }
+        }
+        Ok(Ahead { lists, pause: 0 })
+    }
+
+    // In how many parts so many bytes are read.
+    fn parts(&self, bytes: usize) -> usize
+        ensures { result ≤ length self.now.lists.items }
+    {
+        self.lists.len().min(bytes / PART)
+    }
+}
+
+/// Reads once, and feeds what was read, as `feed_block` does.
 pub(crate) fn feed_round<T: Threads + Sync, R: Read, A: Allocator + Copy + Send + Sync>(
     rt: &T,
     source: &mut Source<R>,
     block: &mut [u8],
     reader: &mut Fed<EventStream<A>, A>,
-    ahead: &mut [Vec<LineAhead, A>],
+    ahead: &mut Ahead<A>,
 ) -> Result<Result<bool, TextFault>, ReadFault>
     requires block { IsRoom (length block.old) }
     requires ready { (k : Known) × IsBetweenFine (StandsFor k) reader.old }
@@ -66,7 +87,7 @@ fn feed_many<T: Threads + Sync, A: Allocator + Copy + Send + Sync>(
     rt: &T,
     bytes: &[u8],
     reader: &mut Fed<EventStream<A>, A>,
-    ahead: &mut [Vec<LineAhead, A>],
+    ahead: &mut Ahead<A>,
 ) -> Result<(), TextFault>
     requires { (k : Known) × IsBetweenFine (StandsFor k) reader.old }
     ensures ready { (k : Known) → fed.IsReady (StandsFor k) reader.old → fed.IsReady (StandsFor k) reader.new }
@@ -78,7 +99,11 @@ fn feed_many<T: Threads + Sync, A: Allocator + Copy + Send + Sync>(
         (λ before. fed.IsTold trace_causes (before ++ bytes.now) told)) }
     ensures fine { IfOk result (λ _. reader.new.fault ≡ None) }
 {
-    if ahead.is_empty() || bytes.len() < MANY {
+    if ahead.parts(bytes.len()) < 2 {
+        return reader.feed(bytes);
+    }
+    if ahead.pause > 0 {
+        ahead.pause -= 1;
         return reader.feed(bytes);
     }
     // The first line may go on from the last block.
@@ -92,7 +117,7 @@ fn feed_side_by_side<T: Threads + Sync, A: Allocator + Copy + Send + Sync>(
     rt: &T,
     bytes: &[u8],
     reader: &mut Fed<EventStream<A>, A>,
-    ahead: &mut [Vec<LineAhead, A>],
+    ahead: &mut Ahead<A>,
 ) -> Result<(), TextFault>
     requires { (k : Known) × IsBetweenFine (StandsFor k) reader.old }
     ensures ready { (k : Known) → fed.IsReady (StandsFor k) reader.old → fed.IsReady (StandsFor k) reader.new }
@@ -107,8 +132,22 @@ fn feed_side_by_side<T: Threads + Sync, A: Allocator + Copy + Send + Sync>(
     if !reader.lines.reader.has_events() {
         return reader.feed(bytes);
     }
-    read_ahead(rt, &reader.lines.reader, bytes, ahead);
-    reader.feed_ahead(bytes, ahead)
+    let parts = ahead.parts(bytes.len());
+    let lists = &mut ahead.lists.as_mut_slice()[..parts];
+    read_ahead(rt, &reader.lines.reader, bytes, lists);
+    if is_of_little_use(bytes, lists) {
+        ahead.pause = PAUSE;
+    }
+    reader.feed_ahead(bytes, lists)
+}
+
+// Whether few of the lines could be read ahead: a common one has some forty bytes.
+fn is_of_little_use<A: Allocator>(bytes: &[u8], lists: &[Vec<LineAhead, A>]) -> bool {
+    let mut lines = 0usize;
+    for list in lists {
+        lines = lines.saturating_add(list.len());
+    }
+    lines < bytes.len() / 128
 }
 
 // How long the first line is, with its newline.

@@ -1,50 +1,24 @@
 -- What a run is, by what is known of its parts.
-use Rattle.std.proofs.Common.{ℕ, ◌≡◌, ◌⊎◌, inl, inr, ◌+◌, ◌≤◌, ◌++◌, List, [], ◌∷◌, length, map, take, All, IsTrue}
-use Rattle.std.proofs.Common.{Option, Some, None, Result, Ok, Err, IfOk, IfErr, refl, sym, ap, subst, ◌∙◌, arith}
-use Rattle.std.{proofs.{Common.slice_get, lemmas.List.{map-append, take_all}}, specs.Prelude.IfSome}
-use Rattle.race_legal.proofs.Fronts.{take_next}
+use Rattle.std.proofs.Common.{ℕ, ◌≡◌, ◌⊎◌, inl, inr, ◌≤◌, List, length, All, IsTrue}
+use Rattle.std.proofs.Common.{Option, Some, None, Result, Ok, Err, IfOk, IfErr, refl, sym, subst, ◌∙◌, arith}
+use Rattle.std.specs.Prelude.{IfSome}
 use Rattle.race_records.specs.declared.{event.Event.Event, trace.TheConstants.MAX_EVENTS}
 use Rattle.race_records.specs.{Declarations.DeclsState, Events.{TraceState, IsTrace, fits}}
 use Rattle.race_records.specs.Events.{op_is_limited}
 use Rattle.race_text.{specs.Text.{HasText, text}, proofs.WritingLemmas.printed_is}
-use Rattle.race_hub.specs.{declared.ending.End.End, Hub.HubState, Opening.IsOpening, Recording.RecordingState}
-use Rattle.race_requests.specs.declared.request.Request.{Request}
+use Rattle.race_hub.specs.{declared.ending.End.End, Hub.HubState, Recording.RecordingState}
+use Rattle.race_explore.specs.Walk.{Opens}
 use Rattle.race_script.specs.{Certificate.IsCertified, Program.ProgramState, Run.{ScriptState, Asks}}
 use Rattle.race_record.specs.{Recorded.IsRecordingOf, Serial.{IsSerial, IsTurnedAway}}
-use Rattle.race_tool.specs.{Outcome.IsOfAFinding, Run.{scripts_of, status_of_end, trace_of, HasRun, IsRunOf}}
+use Rattle.race_tool.specs.{Outcome.IsOfAFinding, Run.{status_of_end, trace_of, HasRun, IsRunOf}}
 use Rattle.race_tool.specs.Run.{IsUncertified, IsRefusedRun}
 use Rattle.race_tool.proofs.StatusLemmas.{small, middle}
 use Rattle.race_tool.specs.declared.status.TheConstants as status
 
--- so many scripts are made
-abbrev pub AreScripts : List (List Request) → ℕ → List ScriptState → Type 0
-AreScripts bodies n scripts = scripts ≡ map (λ body. record { whole = body; position = 0 }) (take n bodies)
-
--- and one more
-pub one_more_script : (bodies : List (List Request)) (n : ℕ) (scripts : List ScriptState) (s : ScriptState) → AreScripts bodies n scripts
-    → slice_get bodies n ≡ Some s.whole → s.position ≡ 0 → AreScripts bodies (n + 1) (scripts ++ s ∷ [])
-one_more_script bodies n scripts s so at position =
-    (λ i. so i ++ record { whole = s.whole; position = position i } ∷ [])
-    ∙ sym (map-append script_of (take n bodies) (s.whole ∷ []))
-    ∙ ap (map script_of) (sym (take_next bodies n s.whole at))
-  where
-    script_of : List Request → ScriptState
-    script_of body = record { whole = body; position = 0 }
-
--- with one for each body they are the program's
-pub all_scripts : (program : ProgramState) (n : ℕ) (scripts : List ScriptState) → length program.bodies ≡ n → AreScripts program.bodies n scripts
-    → scripts ≡ scripts_of program
-all_scripts program n scripts count so =
-    so ∙ ap (map (λ body. record { whole = body; position = 0 })) (take_all n program.bodies (omega (arith, count)))
-
-module _ (program : ProgramState) (limit : ℕ) (picks : Option (List ℕ)) (decls : DeclsState) (scripts : List ScriptState) (hub : HubState ScriptState)
-    (decls_are : decls ≡ program.decls) (scripts_are : scripts ≡ scripts_of program) (opens : IsOpening decls limit scripts hub) where
-  opens_program : IsOpening program.decls limit (scripts_of program) hub
-  opens_program = subst (λ d. IsOpening d limit (scripts_of program) hub) decls_are (subst (λ s. IsOpening decls limit s hub) scripts_are opens)
-
+module _ (program : ProgramState) (limit : ℕ) (picks : Option (List ℕ)) (hub : HubState ScriptState) (opens : Opens program limit hub) where
   -- nothing was recorded
   pub turned_away : IfSome picks (λ list. IsTurnedAway Asks list hub) → IsRefusedRun limit picks program
-  turned_away away = record { hub = hub; opens = opens_program; refused = by picks away }
+  turned_away away = record { hub = hub; opens = opens; refused = by picks away }
     where
       by : (o : Option (List ℕ)) → IfSome o (λ list. IsTurnedAway Asks list hub) → IfSome o (λ list. IsTurnedAway Asks list hub ⊎ IsUncertified list program hub)
       by (Some list) is = inl is
@@ -57,7 +31,7 @@ module _ (program : ProgramState) (limit : ℕ) (picks : Option (List ℕ)) (dec
     certified_run (Ok s) recording is certified has_text = record {
       run = subst (λ (x : RecordingState). IsRunOf limit picks program x) (sym is) record {
         hub = hub;
-        opens = opens_program;
+        opens = opens;
         recording = recording;
         serial = serial;
         certified = subst (λ (x : RecordingState). IsCertified program x) is certified;
@@ -69,15 +43,11 @@ module _ (program : ProgramState) (limit : ℕ) (picks : Option (List ℕ)) (dec
     pub uncertified_run : {E : Type 0} (answer : Result RecordingState E) (e : E) → IfErr answer (λ _. IsCertified program r → ⊥) → answer ≡ Err e
         → IsRefusedRun limit picks program
     uncertified_run (Ok s) e none is = absurd (cc is)
-    uncertified_run (Err f) e none is = record { hub = hub; opens = opens_program; refused = by picks serial }
+    uncertified_run (Err f) e none is = record { hub = hub; opens = opens; refused = by picks serial }
       where
         by : (o : Option (List ℕ)) → IfSome o (λ list. IsSerial Asks list hub r) → IfSome o (λ list. IsTurnedAway Asks list hub ⊎ IsUncertified list program hub)
         by (Some list) is = inr (r, is, none)
         by None is = tt
-
--- from a new hub no job is out
-pub none_out : {R : Type 0} (decls : DeclsState) (limit : ℕ) (boxes : List R) (hub : HubState R) → IsOpening decls limit boxes hub → length hub.out ≡ 0
-none_out decls limit boxes hub opens = ap (λ h. length h.out) opens.hub_is
 
 -- what holds of every trace goes by its declarations and events
 pub trace_stays : (t u : TraceState) → t.decls ≡ u.decls → t.events ≡ u.events → IsTrace t → IsTrace u

@@ -1,11 +1,12 @@
 -- Which reply is right where a program is run.
-use Rattle.std.specs.Prelude.{ℕ, ◌≡◌, ◌&&◌, ◌⊎◌, nat_le, Bool, List, map, Option, Some, IfSome}
+use Rattle.std.specs.Prelude.{ℕ, ◌≡◌, ◌&&◌, ◌⊎◌, nat_le, Bool, List, Option, Some, IfSome}
 use Rattle.race_records.specs.{declared.{source.Source.Source, sink.Sink.Sink, trace.TheConstants.MAX_EVENTS}, Events.TraceState}
 use Rattle.race_text.specs.Text.{HasText, text}
-use Rattle.race_hub.specs.{declared.ending.End.End, Hub.HubState, Opening.IsOpening, Recording.RecordingState}
+use Rattle.race_hub.specs.{declared.ending.End.End, Hub.HubState, Recording.RecordingState}
 use Rattle.race_script.specs.{Certificate.IsCertified, Fault.{text_fault, program_causes}, Program.ProgramState, Run.{ScriptState, Asks}}
 use Rattle.race_script.specs.Text.{IsTextOf}
 use Rattle.race_record.specs.{Recorded.IsRecordingOf, Serial.{IsSerial, IsTurnedAway}}
+use Rattle.race_explore.specs.Walk.{Opens}
 use Rattle.race_tool.specs.{declared.reply.Reply.Reply, Outcome.Answers, Reply.{reply_text, reply_status}}
 use Rattle.race_tool.specs.declared.status.TheConstants as status
 
@@ -13,15 +14,11 @@ use Rattle.race_tool.specs.declared.status.TheConstants as status
 abbrev pub is_run_limit : ℕ → Bool
 is_run_limit limit = nat_le 1 limit && nat_le limit MAX_EVENTS
 
--- a script for each goroutine, of which nothing was asked
-abbrev pub scripts_of : ProgramState → List ScriptState
-scripts_of program = map (λ body. record { whole = body; position = 0 }) program.bodies
-
 -- a recording of a hub of the program's scripts, which follows the program. With picks it is the one to which the hub comes by them on
 -- one thread; without, workers made it, and nothing says which of the program's runs they record
 pub record IsRunOf (limit : ℕ) (picks : Option (List ℕ)) (program : ProgramState) (r : RecordingState) : Type 0 where
   pub hub : HubState ScriptState
-  pub opens : IsOpening program.decls limit (scripts_of program) hub
+  pub opens : Opens program limit hub
   pub recording : IsRecordingOf hub r
   pub serial : IfSome picks (λ list. IsSerial Asks list hub r)
   pub certified : IsCertified program r
@@ -34,7 +31,7 @@ IsUncertified picks program hub = (r : RecordingState) × IsSerial Asks picks hu
 -- recorded isn't a run of the program. Without picks nothing is said of why there is none
 pub record IsRefusedRun (limit : ℕ) (picks : Option (List ℕ)) (program : ProgramState) : Type 0 where
   pub hub : HubState ScriptState
-  pub opens : IsOpening program.decls limit (scripts_of program) hub
+  pub opens : Opens program limit hub
   pub refused : IfSome picks (λ list. IsTurnedAway Asks list hub ⊎ IsUncertified list program hub)
 
 -- the recording's trace

@@ -3,15 +3,15 @@ ghost use Rattle.std.specs.Prelude.{◌≡◌, ◌↔◌, length, Err, IfOk, IfE
 ghost use Rattle.race_script.specs.Certificate.{IsCertified};
 ghost use Rattle.race_record.specs.{Recorded.IsRecordingOf, Serial.{IsSerial, IsTurnedAway}};
 ghost use Rattle.race_text.specs.Text.{HasText};
-ghost use Rattle.race_tool.specs.{Options.picks_asked, Run.{scripts_of, trace_of, HasRun, IsRefusedRun}};
+ghost use Rattle.race_tool.specs.{Options.picks_asked, Run.{trace_of, HasRun, IsRefusedRun}};
 
 use crate::engine::Unanswered;
 use crate::run::RunOptions;
+use race_explore::program_hub;
 use race_hub::{Hub, Recording, Routine};
 use race_record::{RecordFault, record, record_serial};
-use race_records::Kind;
-use race_script::{Program, Script, certify};
-use std::alloc::{AllocError, Allocator};
+use race_script::{Program, certify};
+use std::alloc::Allocator;
 use std::sync::Wait;
 use std::thread::Threads;
 
@@ -27,15 +27,10 @@ pub(crate) fn record_program<T: Threads + Wait + Sync, A: Allocator + Copy + Sen
     ensures unrecorded { result ≡ Err Unanswered.Unrecorded
         → IsRefusedRun options.now.limit (picks_asked options.now) program.now }
 {
-    let decls = program.decls().copy()?;
-    let scripts = scripts(alloc, program)?;
-    match Hub::new(alloc, decls, options.limit, scripts) {
-        Ok(hub) => match recorded(rt, hub, options) {
-            Ok(recording) => certified(program, recording),
-            Err(fault) => Err(no_finding(fault)),
-        },
-        // There is a script for each goroutine, and the engines have tested the limit.
-        Err(_) => Err(Unanswered::Refused),
+    let hub = program_hub(alloc, program, options.limit)?;
+    match recorded(rt, hub, options) {
+        Ok(recording) => certified(program, recording),
+        Err(fault) => Err(no_finding(fault)),
     }
 }
 
@@ -89,18 +84,4 @@ fn certified<A: Allocator>(
         Ok(()) => Ok(recording),
         Err(_) => Err(Unanswered::Unrecorded),
     }
-}
-
-// A script for each goroutine.
-fn scripts<A: Allocator + Copy>(
-    alloc: A,
-    program: &Program<A>,
-) -> Result<Vec<Script<A>, A>, AllocError>
-    ensures { IfOk result (λ scripts. scripts.items ≡ scripts_of program.now) }
-{
-    let mut scripts = Vec::new(alloc);
-    for goroutine in 0..program.decls().count(Kind::Goroutine) {
-        scripts.push(Script::new(alloc, program, goroutine)?)?;
-    }
-    Ok(scripts)
 }

@@ -1,8 +1,0 @@
-use Rattle.race_tool.proofs.RunLemmas.{AreScripts}
-use Rattle.race_tool.proofs.recorded.scripts.Given as goal
-
--- the scripts of so many goroutines are made
-abbrev pub invariant-loop-goroutine : goal.invariant-loop-goroutine
-invariant-loop-goroutine g l = record {
-  made : AreScripts l.program.bodies l.goroutine l.scripts.items;
-}

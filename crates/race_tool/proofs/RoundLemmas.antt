@@ -1,8 +1,8 @@
 -- Lines that threads read ahead of the reader, and bytes that are fed in two parts.
-use Rattle.std.proofs.Common.{◌≡◌, ℕ, List, ◌++◌, take, drop, IsTrue, All, Some, None, Result, Ok, Err, IfOk, IfErr, IsErrAnd, Vec, refl, sym, ap, ◌∙◌, subst, append_assoc}
+use Rattle.std.proofs.Common.{◌≡◌, ℕ, List, ◌++◌, take, drop, IsTrue, All, None, Result, Ok, Err, IfOk, IfErr, Vec, refl, ap, ◌∙◌, subst, append_assoc}
 use Rattle.std.proofs.lemmas.List.{take-append-drop}
-use Rattle.race_text.specs.declared.{ahead.LineAhead.LineAhead, cause.TextFault.TextFault, fed.Fed.Fed, stream.EventStream.EventStream}
-use Rattle.race_text.specs.{Ahead.{AreAhead, AreKnownAhead}, Fault.trace_causes, Fed.IsReady}
+use Rattle.race_text.specs.declared.{ahead.LineAhead.LineAhead, fed.Fed.Fed, stream.EventStream.EventStream}
+use Rattle.race_text.specs.{Ahead.{AreAhead, AreKnownAhead}, Fed.IsReady}
 use Rattle.race_text.specs.Stream.{Known, StandsFor, decls_of, has_events, known_now}
 use Rattle.race_tool.specs.Input.{IsBetweenFine}
 

@@ -1,4 +1,4 @@
-use Rattle.std.proofs.Common.{◌≡◌, ◌++◌, Err, List, [], ℕ, codes, subst}
+use Rattle.std.proofs.Common.{◌≡◌, ◌++◌, Err, List, ℕ, codes, subst}
 use Rattle.race_records.{specs.Page.Printing, proofs.PageLemmas.{breaks_off_before, prints_behind}}
 use Rattle.race_tool.specs.Explore.{access_text, how_often, picks_text, racy_line}
 use Rattle.race_tool.proofs.explore_printing.print_racy.Goals as goal

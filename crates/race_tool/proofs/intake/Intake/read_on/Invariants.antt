@@ -1,4 +1,4 @@
-use Rattle.std.proofs.Common.{◌≡◌, ◌≤◌, ◌-◌, vec_len}
+use Rattle.std.proofs.Common.{◌≤◌, ◌-◌, vec_len}
 use Rattle.race_text.specs.Stream.{Known, StandsFor}
 use Rattle.race_tool.specs.{declared.input.TheConstants.MAX_TURNS, Input.IsRoom, Intake.IsReadable}
 use Rattle.race_tool.proofs.IntakeLemmas.{IsOn}

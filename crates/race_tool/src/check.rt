@@ -27,9 +27,11 @@ use std::thread::Threads;
 /// How a trace is judged.
 #[derive(Clone, Copy, Debug, PartialEq, Eq)]
 pub struct CheckOptions {
-    /// How many threads read and judge, 1 to 64.
+    /// How many threads share the work, 1 to 64. In a check one judges and the others read; in a judged run each has a shard
+    /// of the variables.
     pub shards: usize,
-    /// How many events several threads read before these are judged, 1 to 65,536. One thread judges what each read gives.
+    /// How many events several threads read, at least, before these are judged, 1 to 65,536; of a judged run, how many are
+    /// judged at a time. One thread judges what each read gives.
     pub block: usize,
     /// Whether the plain judge is wanted, which takes at most 2,000 events.
     pub plain: bool,

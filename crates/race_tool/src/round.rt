@@ -82,7 +82,7 @@ pub(crate) fn feed_round<T: Threads + Sync, R: Read, A: Allocator + Copy + Send 
     }
 }
 
-// Feeds bytes, whose lines threads read ahead where there are many.
+// Feeds bytes, whose lines threads read ahead where there are parts enough for several.
 fn feed_many<T: Threads + Sync, A: Allocator + Copy + Send + Sync>(
     rt: &T,
     bytes: &[u8],
@@ -112,7 +112,7 @@ fn feed_many<T: Threads + Sync, A: Allocator + Copy + Send + Sync>(
     feed_side_by_side(rt, rest, reader, ahead)
 }
 
-// The same of bytes before which no line is open, as a rule.
+// The same by all threads. If a line is open before the bytes, `feed_ahead` uses nothing that was read ahead.
 fn feed_side_by_side<T: Threads + Sync, A: Allocator + Copy + Send + Sync>(
     rt: &T,
     bytes: &[u8],

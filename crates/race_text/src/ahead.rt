@@ -12,6 +12,7 @@ use crate::cut::cut_at;
 use crate::guesses::{Guesses, mark_of};
 use race_records::{Decls, as_text};
 use std::alloc::Allocator;
+use std::mem;
 
 /// What a line says that was read ahead, and where in the bytes it stands.
 #[derive(Clone, Copy)]
@@ -41,7 +42,28 @@ pub(crate) fn read_lines<A: Allocator + Copy>(
     requires { IsWellFormed decls.now }
     ensures { All (IsAhead decls.now.declarations decls.now.places bytes.now) lines.new.items }
 {
-    lines.clear();
+    // Lists of several threads stand side by side, and each push writes a length: into the thread's own memory here, not
+    // into a cache line that it shares with the others.
+    let blank = Vec::new(*lines.allocator());
+    let mut own = mem::replace(lines, blank);
+    own.clear();
+    push_lines(decls, guesses, bytes, from, to, &mut own);
+    *lines = own;
+}
+
+// Adds these lines to those that were read ahead.
+fn push_lines<A: Allocator + Copy>(
+    decls: &Decls<A>,
+    guesses: &Guesses<A>,
+    bytes: &[u8],
+    from: usize,
+    to: usize,
+    lines: &mut Vec<LineAhead, A>,
+)
+    requires decls { IsWellFormed decls.now }
+    requires ahead { All (IsAhead decls.now.declarations decls.now.places bytes.now) lines.old.items }
+    ensures { All (IsAhead decls.now.declarations decls.now.places bytes.now) lines.new.items }
+{
     let mut at = first_line(bytes, from);
     while at < to && at < bytes.len() {
         let (line, next) = read_at(decls, guesses, bytes, at);

@@ -114,6 +114,7 @@ module _ (program : ProgramState) (limit : ℕ) where
     follows = λ hub opens. inl refl;
     earlier = λ hub h forks opens runs has. All-nil (IsEarlier program limit forks);
     few = All-nil (λ p. p ≤ e.runs);
+    more = λ some. let none = counts.runs in absurd (omega (arith, none, some));
   }
 
   module _ {A : Type 0} (picks : List ℕ) (old new : Explored A) (forks : List Fork) (r : RecordingState) (verdict : Verdict)
@@ -244,6 +245,14 @@ module _ (program : ProgramState) (limit : ℕ) where
         earlier = all_earlier next is;
         few = subst (λ n. All (λ p. p ≤ n) next) (sym one_more_run)
             (next_few old.runs picks forks next (notes_picks Asks picks run.hub run.noting.1) walked.few is);
+        more = λ _. record {
+          before = walked.seen;
+          last = record { picks = picks; run = r; verdict = verdict };
+          last_is = refl;
+          forks = forks;
+          takes = takes;
+          more = subst (λ o. IsSome o) (sym is) refl;
+        };
       }
         where
           left : (hub h : HubState ScriptState) (others : List Fork) → Opens program limit hub → RunsFrom hub others h

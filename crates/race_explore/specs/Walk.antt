@@ -1,6 +1,6 @@
 -- What it means that every run of a program was looked at. (Our own; compare The Go Memory Model, "Memory Model", requirement 1: each goroutine's
 -- execution)
-use Rattle.std.specs.Prelude.{ℕ, ◌≡◌, ◌⊎◌, ◌<◌, ◌≤◌, ◌&&◌, nat_le, Bool, true, false, List, [], All, map, slice_get, Some}
+use Rattle.std.specs.Prelude.{ℕ, ◌≡◌, ◌⊎◌, ◌<◌, ◌≤◌, ◌&&◌, nat_le, Bool, true, false, List, [], ◌∷◌, ◌++◌, All, map, slice_get, Some, IsSome}
 use Rattle.race_records.specs.declared.trace.TheConstants.{MAX_EVENTS}
 use Rattle.race_verdict.specs.Traces.{HasVerdict}
 use Rattle.race_hub.specs.{Finish.IsRecorded, Hub.HubState, Opening.IsOpening, Recording.RecordingState}
@@ -85,7 +85,16 @@ module _ (program : ProgramState) (limit : ℕ) where
   NoneTwice seen = (i k : ℕ) (a b : Looked) → i < k → slice_get seen i ≡ Some a → slice_get seen k ≡ Some b
       → (forks : List Fork) × TakesChoices b forks × IsEarlier forks a
 
-  -- what the runs come to: these were looked at, and counted; all of them, or as many as were wanted
+  -- the last run that was looked at left a choice of a greater number at some event, so the walk isn't at its end
+  pub record LeavesMore (seen : List Looked) : Type 0 where
+    pub before : List Looked
+    pub last : Looked
+    pub last_is : seen ≡ before ++ last ∷ []
+    pub forks : List Fork
+    pub takes : TakesChoices last forks
+    pub more : IsSome (next_picks forks)
+
+  -- what the runs come to: these were looked at, and counted; all of them, or as many as were wanted, of more
   pub record IsExplored {A : Type 0} (most : ℕ) (e : Explored A) : Type 0 where
     pub seen : List Looked
     pub looked : All IsLooked seen
@@ -94,7 +103,7 @@ module _ (program : ProgramState) (limit : ℕ) where
     pub bad : AreBadEnds seen e.bad.items
     pub none_twice : NoneTwice seen
     pub whole : e.whole ≡ true → EachRun seen
-    pub stopped : e.whole ≡ false → e.runs ≡ most
+    pub stopped : e.whole ≡ false → (e.runs ≡ most) × LeavesMore seen
 
   -- the walk has come so far: each run was seen, or is left to the picks, which are none, or come next after those of a run;
   -- the run by these picks comes later than each that was seen
@@ -111,6 +120,7 @@ module _ (program : ProgramState) (limit : ℕ) where
     pub earlier : (hub h : HubState ScriptState) (forks : List Fork) → Opens program limit hub → RunsFrom hub forks h → HasPicks picks forks
         → All (IsEarlier forks) seen
     pub few : All (λ pick. pick ≤ e.runs) picks
+    pub more : 0 < e.runs → LeavesMore seen
 
   -- and has come to its end
   pub record IsWalkedOut {A : Type 0} (e : Explored A) : Type 0 where

@@ -1,5 +1,5 @@
 //! Why the runs of a program weren't looked at.
-ghost use Rattle.std.specs.Prelude.{◌≡◌};
+ghost use Rattle.std.specs.Prelude.{◌≡◌, ◌≢◌};
 
 use race_record::RecordFault;
 use std::alloc::AllocError;
@@ -32,7 +32,8 @@ impl From<AllocError> for ExploreFault {
 
 /// What the fault of a recording comes to.
 pub(crate) fn unrecorded(fault: RecordFault) -> ExploreFault
-    ensures { result ≡ ExploreFault.NotARun → fault ≡ RecordFault.Mismatch }
+    ensures mismatch { result ≡ ExploreFault.NotARun → fault ≡ RecordFault.Mismatch }
+    ensures in_limits { result ≢ ExploreFault.BadLimit }
 {
     match fault {
         RecordFault::Mismatch => ExploreFault::NotARun,

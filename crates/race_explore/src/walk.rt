@@ -1,5 +1,5 @@
 //! The walk over all runs of a program.
-ghost use Rattle.std.specs.Prelude.{◌≡◌, ◌+◌, ◌<◌, ℕ, List, Err, IfOk, MatchBool, false};
+ghost use Rattle.std.specs.Prelude.{◌≡◌, ◌≢◌, ◌+◌, ◌<◌, ℕ, List, Err, IfOk, MatchBool, true, false};
 ghost use Rattle.race_explore.specs.Walk.{are_explore_limits, IsExplored, IsRefused, IsWalked, IsWalkedOut};
 
 use crate::explored::Explored;
@@ -29,6 +29,7 @@ pub fn explore<A: Allocator + Copy + Send>(
     most: u64,
 ) -> Result<Explored<A>, ExploreFault>
     ensures limits { are_explore_limits limit most ≡ false → result ≡ Err ExploreFault.BadLimit }
+    ensures in_limits { are_explore_limits limit most ≡ true → result ≢ Err ExploreFault.BadLimit }
     ensures explored { IfOk result (λ e. IsExplored program.now limit most e) }
     ensures refused { result ≡ Err ExploreFault.NotARun → (picks : List ℕ) × IsRefused program.now limit picks }
 {
@@ -72,6 +73,7 @@ fn look_at_next<A: Allocator + Copy + Send>(
     ensures runs { IfOk result (λ _. explored.new.runs ≡ explored.old.runs + 1) }
     ensures whole { IfOk result (λ _. explored.new.whole ≡ explored.old.whole) }
     ensures refused { result ≡ Err ExploreFault.NotARun → (list : List ℕ) × IsRefused program.now limit list }
+    ensures in_limits { result ≢ Err ExploreFault.BadLimit }
 {
     let recording = run_by(alloc, program, limit, picks.as_slice(), forks)?;
     let verdict = judge_alone(alloc, recording.trace())?;

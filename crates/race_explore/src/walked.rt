@@ -1,5 +1,5 @@
 //! One run of a program, by its picks.
-ghost use Rattle.std.specs.Prelude.{◌≡◌, ◌↔◌, Err, IfOk, IfErr, length};
+ghost use Rattle.std.specs.Prelude.{◌≡◌, ◌≢◌, ◌↔◌, Err, IfOk, IfErr, length};
 ghost use Rattle.race_record.specs.Noting.{HaveNext};
 ghost use Rattle.race_script.specs.Certificate.{IsCertified};
 ghost use Rattle.race_explore.specs.Walk.{scripts_of, Opens, IsNotedRun, IsRefused};
@@ -22,6 +22,7 @@ pub(crate) fn run_by<A: Allocator + Copy + Send>(
     requires { HaveNext picks.now }
     ensures run { IfOk result (λ recording. IsNotedRun program.now limit picks.now forks.new.items recording) }
     ensures refused { result ≡ Err ExploreFault.NotARun → IsRefused program.now limit picks.now }
+    ensures in_limits { result ≢ Err ExploreFault.BadLimit }
 {
     let hub = program_hub(alloc, program, limit)?;
     match record_noting(hub, picks, forks) {
@@ -57,6 +58,7 @@ fn certified<A: Allocator>(
     ensures same { IfOk result (λ r. r ≡ recording) }
     ensures run { IfOk result (λ r. IsCertified program.now r) }
     ensures none { IfErr result (λ _. IsCertified program.now recording → ⊥) }
+    ensures in_limits { result ≢ Err ExploreFault.BadLimit }
 {
     match certify(program, &recording) {
         Ok(()) => Ok(recording),

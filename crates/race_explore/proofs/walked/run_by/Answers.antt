@@ -20,5 +20,5 @@ returns-in-Err-clause-refused g c = λ is.
     record {
       hub = c.in_ok-hub.hub;
       opens = c.in_ok-hub.ensures.opens;
-      refused = inl (c.in-Err.ensures.mismatch (ap (λ (fault : RecordFault). Err fault) (c.unrecorded.ensures not_a_run)));
+      refused = inl (c.in-Err.ensures.mismatch (ap (λ (fault : RecordFault). Err fault) (c.unrecorded.ensures.mismatch not_a_run)));
     }

@@ -3,8 +3,8 @@
 use crate::calls::{Growing, Reply, assert_each, refusals, refused_if, right_if};
 use race_records::{Sink, Source};
 use race_tool::{
-    CheckOptions, PredictOptions, RunOptions, run_certify, run_check, run_draw, run_edges,
-    run_predict, run_race, run_run, run_witness, status,
+    CheckOptions, ExploreOptions, PredictOptions, RunOptions, run_certify, run_check, run_draw,
+    run_edges, run_explain, run_explore, run_predict, run_race, run_run, run_witness, status,
 };
 use refusing_heap::RefusingHeap;
 use std::alloc::{Allocator, Global};
@@ -26,6 +26,8 @@ enum Engine {
     Check(Judging),
     /// Of this text, by so many threads, which judge one event at a time, where a read gives few bytes.
     CheckPieces(&'static [u8], usize),
+    /// Of a long text, whose lines so many threads read ahead.
+    CheckRound(usize),
     Edges,
     /// By so many workers, or without any by picks.
     Run(Option<usize>),
@@ -36,6 +38,8 @@ enum Engine {
     /// Of a trace that hides a race, in turned orders too or not.
     Predict(bool),
     Certify,
+    Explain,
+    Explore,
 }
 
 // A goroutine, a variable and a race.
@@ -87,6 +91,8 @@ enum Written {
     One(&'static [u8]),
     /// The one or the other, as the workers go.
     Either(&'static [u8], &'static [u8]),
+    /// A text that begins so.
+    Front(&'static [u8]),
     /// A drawing of so many bytes.
     Drawing(usize),
 }
@@ -97,6 +103,11 @@ type Ending = (u8, Written);
 const CHECKED: Ending = (
     status::RACES,
     Written::One(b"race on x: write by main at p (event 2), read by w at p (event 3)\nraces: 1\n"),
+);
+
+const CHECKED_AHEAD: Ending = (
+    status::CLEAN,
+    Written::One(b"clean: 4001 events, 4001 accesses\n"),
 );
 
 const FAULT: Ending = (status::TEXT_FAULT, Written::One(b"line 7: unknown word\n"));
@@ -154,6 +165,14 @@ const CERTIFIED: Ending = (
     ),
 );
 
+const EXPLAINED: Ending = (
+    status::RACES,
+    Written::Front(b"race on x: write by main at p (event 2), read by w at p (event 3)\nraces: 1\n"),
+);
+
+// The write comes first or the read does; then both goroutines wait for ever.
+const EXPLORED: Ending = (status::RACES, Written::Front(b"race on x in 2 of 2 runs: "));
+
 // Gives its bytes, five a read.
 #[derive(Drop)]
 struct Pieces {
@@ -164,6 +183,33 @@ impl Read for Pieces {
     fn read(&mut self, buf: &mut [u8]) -> io::Result<usize> {
         let count = buf.len().min(5);
         self.bytes.read(&mut buf[..count])
+    }
+}
+
+// A declaration and an event, whose place the lines behind it have too.
+const HEAD: &[u8] = b"gotrace 1\nvar x\nwrite main x 1 bank/account.go:1021\n";
+
+const LINE: &[u8] = b"write main x 1 bank/account.go:1021\n";
+
+// Gives the head, and then, as one read, so many times the line. Two threads share 131,072 bytes or more.
+#[derive(Drop)]
+struct Repeated {
+    head: &'static [u8],
+    times: usize,
+}
+
+impl Read for Repeated {
+    fn read(&mut self, buf: &mut [u8]) -> io::Result<usize> {
+        if !self.head.is_empty() {
+            return self.head.read(buf);
+        }
+        let mut len = 0;
+        while self.times > 0 && LINE.len() <= buf.len() - len {
+            buf[len..len + LINE.len()].copy_from_slice(LINE);
+            len += LINE.len();
+            self.times -= 1;
+        }
+        Ok(len)
     }
 }
 
@@ -178,6 +224,7 @@ fn is_written(output: &[u8], len: usize, written: Written) -> bool {
         Written::Either(text, other) => {
             is_text(output, len, text) || is_text(output, len, other)
         }
+        Written::Front(text) => output.starts_with(text),
         Written::Drawing(bytes) => len == bytes,
     }
 }
@@ -199,6 +246,24 @@ fn run_check_in_pieces<R: Threads + Wait + Sync, A: Allocator + Copy + Send + Sy
     run_check(rt, alloc, &mut pieces, sink, &options)
 }
 
+// The status of a check by so many threads, which read ahead.
+fn run_check_ahead<R: Threads + Wait + Sync, A: Allocator + Copy + Send + Sync, W: Write>(
+    rt: &R,
+    alloc: A,
+    sink: &mut Sink<W>,
+    shards: usize,
+) -> u8 {
+    let mut long = Source::new(Repeated {
+        head: HEAD,
+        times: 4_000,
+    });
+    let options = CheckOptions {
+        shards,
+        ..CheckOptions::default()
+    };
+    run_check(rt, alloc, &mut long, sink, &options)
+}
+
 // The status.
 fn run<R: Threads + Wait + Sync, A: Allocator + Copy + Send + Sync>(
     rt: &R,
@@ -215,6 +280,7 @@ fn run<R: Threads + Wait + Sync, A: Allocator + Copy + Send + Sync>(
         Engine::CheckPieces(bytes, shards) => {
             run_check_in_pieces(rt, alloc, bytes, &mut sink, shards)
         }
+        Engine::CheckRound(threads) => run_check_ahead(rt, alloc, &mut sink, threads),
         Engine::Edges => run_edges(alloc, &mut trace, &mut sink),
         Engine::Run(workers) => {
             let run = run_options(alloc, workers);
@@ -231,6 +297,10 @@ fn run<R: Threads + Wait + Sync, A: Allocator + Copy + Send + Sync>(
             run_predict(alloc, &mut hidden, &mut sink, &options)
         }
         Engine::Certify => run_certify(alloc, &mut hidden, &mut sink, "x", false),
+        Engine::Explain => run_explain(alloc, &mut trace, &mut sink),
+        Engine::Explore => {
+            run_explore(alloc, &mut program, &mut sink, &ExploreOptions::default())
+        }
     }
 }
 
@@ -293,11 +363,13 @@ fn engines(rt: HostRuntime) {
 
 // A thread that reads and one that judges grow at one time, in no order that is always the same: so which growth is refused
 // isn't known, and how often differs.
-static BESIDE: [Row; 4] = [
+static BESIDE: [Row; 6] = [
     Row(Engine::CheckPieces(TRACE, 2), CHECKED),
     Row(Engine::CheckPieces(TRACE, 3), CHECKED),
     Row(Engine::CheckPieces(FAULTY, 1), FAULT),
     Row(Engine::CheckPieces(FAULTY, 2), FAULT),
+    Row(Engine::CheckRound(3), CHECKED_AHEAD),
+    Row(Engine::CheckRound(4), CHECKED_AHEAD),
 ];
 
 #[test]
@@ -307,11 +379,13 @@ fn engines_that_read_beside(rt: HostRuntime) {
     }
 }
 
-// How many lists a search takes is its own matter.
-static SEARCHES: [Row; 3] = [
+// How many lists a search or an explanation takes is its own matter.
+static SEARCHES: [Row; 5] = [
     Row(Engine::Predict(false), PREDICTED),
     Row(Engine::Predict(true), PREDICTED),
     Row(Engine::Certify, CERTIFIED),
+    Row(Engine::Explain, EXPLAINED),
+    Row(Engine::Explore, EXPLORED),
 ];
 
 #[test]

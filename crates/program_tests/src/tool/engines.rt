@@ -1,7 +1,8 @@
 //! The engines on bytes, and what they tell.
 use race_records::{Sink, Source};
 use race_tool::{
-    CheckOptions, RunOptions, run_check, run_draw, run_edges, run_race, run_run, run_witness,
+    CheckOptions, ExploreOptions, PredictOptions, RunOptions, run_check, run_draw, run_edges,
+    run_explain, run_explore, run_predict, run_race, run_run, run_witness,
 };
 use std::alloc::{AllocError, AllocGlobal, Global};
 use std::io::{Read, Write};
@@ -22,6 +23,9 @@ pub(crate) enum Engine {
     Race,
     Witness,
     Draw(bool),
+    Explain,
+    Predict,
+    Explore,
 }
 
 /// What the engines that have options may be given.
@@ -68,6 +72,9 @@ pub(crate) fn answer<R: Read, W: Write>(
         Engine::Race => run_race(rt, rt.alloc(), source, sink, run, check),
         Engine::Witness => run_witness(rt.alloc(), source, sink, "x"),
         Engine::Draw(svg) => run_draw(rt.alloc(), source, sink, None, svg),
+        Engine::Explain => run_explain(rt.alloc(), source, sink),
+        Engine::Predict => run_predict(rt.alloc(), source, sink, &PredictOptions::default()),
+        Engine::Explore => run_explore(rt.alloc(), source, sink, &ExploreOptions::default()),
     }
 }
 

@@ -36,7 +36,7 @@ const PROGRAM_FAULT: &str = "line 5: unknown word\n";
 /// An engine, an input behind which a read fails, and what is written where a fault of the text is told before.
 type Row = (Engine, &'static str, &'static str);
 
-static READERS: [Row; 23] = [
+static READERS: [Row; 28] = [
     (Engine::Check, TRACE, ""),
     (Engine::Edges, TRACE, ""),
     (Engine::Witness, TRACE, ""),
@@ -44,6 +44,9 @@ static READERS: [Row; 23] = [
     (Engine::Draw(true), TRACE, ""),
     (Engine::Run, PROGRAM, ""),
     (Engine::Race, PROGRAM, ""),
+    (Engine::Explain, TRACE, ""),
+    (Engine::Predict, TRACE, ""),
+    (Engine::Explore, PROGRAM, ""),
     (Engine::Check, "gotrace 1 / var x", ""),
     (Engine::Edges, "gotrace 1 / var x", ""),
     (
@@ -65,6 +68,8 @@ static READERS: [Row; 23] = [
     (Engine::Draw(true), FAULTY, FAULT),
     (Engine::Run, FAULTY_PROGRAM, PROGRAM_FAULT),
     (Engine::Race, FAULTY_PROGRAM, PROGRAM_FAULT),
+    (Engine::Predict, FAULTY, FAULT),
+    (Engine::Explore, FAULTY_PROGRAM, PROGRAM_FAULT),
     (Engine::Check, "gotrace 3", "line 1: bad header\n"),
     (Engine::Edges, "gotrace 3", "line 1: bad header\n"),
     (Engine::Run, "goprogram 3", "line 1: bad header\n"),
@@ -124,7 +129,7 @@ const HANDOFF: &str =
     "goprogram 1 / goroutine w / chan c 0 / var x / body main / go w m:1 / recv c m:2 / read x m:3 / exit m:4 / body w / write x 8 w:1 / send c 1 w:2 / exit w:3";
 
 // An engine, its input, and the first five bytes that it writes.
-static WRITERS: [(Engine, &str, &[u8]); 16] = [
+static WRITERS: [(Engine, &str, &[u8]); 22] = [
     (Engine::Check, "gotrace 1", b"clean"),
     (Engine::Check, TRACE, b"clean"),
     (Engine::Check, LATE_WRITE, b"race "),
@@ -145,6 +150,12 @@ static WRITERS: [(Engine, &str, &[u8]); 16] = [
     (Engine::Run, FAULTY_PROGRAM, b"line "),
     (Engine::Race, HANDOFF, b"clean"),
     (Engine::Race, FAULTY_PROGRAM, b"line "),
+    (Engine::Explain, LATE_WRITE, b"race "),
+    (Engine::Explain, FAULTY, b"line "),
+    (Engine::Predict, LATE_WRITE, b"race "),
+    (Engine::Predict, FAULTY, b"line "),
+    (Engine::Explore, HANDOFF, b"runs:"),
+    (Engine::Explore, FAULTY_PROGRAM, b"line "),
 ];
 
 #[test]

@@ -56,7 +56,8 @@ fn used<A: Allocator + Copy, B: Allocator>(
     Ok(used)
 }
 
-fn note(used: &mut [bool], number: u32) {
+/// Notes the object of this number.
+pub(crate) fn note(used: &mut [bool], number: u32) {
     let index = number as usize;
     if index < used.len() {
         used[index] = true;

@@ -184,8 +184,8 @@ fn put_no_fault<A: Allocator, B: Allocator>(
     }
 }
 
-/// Puts which event after this one unlocks the lock, or that an unlock may be missing.
-pub(crate) fn put_unlock<A: Allocator, B: Allocator>(
+// Puts which event after this one unlocks the lock, or that an unlock may be missing.
+fn put_unlock<A: Allocator, B: Allocator>(
     out: &mut Vec<u8, A>,
     trace: &Trace<B>,
     at: u32,
@@ -195,8 +195,8 @@ pub(crate) fn put_unlock<A: Allocator, B: Allocator>(
     put_later(out, trace, at, Deed::Unlocks(lock), " unlocks it", missing)
 }
 
-/// Puts which event after this one unlocks the lock from reading, or that a runlock may be missing.
-pub(crate) fn put_runlock<A: Allocator, B: Allocator>(
+// Puts which event after this one unlocks the lock from reading, or that a runlock may be missing.
+fn put_runlock<A: Allocator, B: Allocator>(
     out: &mut Vec<u8, A>,
     trace: &Trace<B>,
     at: u32,

@@ -20,6 +20,7 @@ mod race;
 mod rule;
 mod sentence;
 mod shown;
+mod unlocking;
 mod word;
 
 pub use explain::{explain_fault, explain_trace};

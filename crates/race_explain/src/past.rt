@@ -34,8 +34,8 @@ pub(crate) enum Deed {
     Ends(u32),
 }
 
-// Whether the event does so.
-fn does(event: &Event, deed: Deed) -> bool {
+/// Whether the event does so.
+pub(crate) fn does(event: &Event, deed: Deed) -> bool {
     match &event.op {
         Op::Go(goroutine) => deed == Deed::Starts(*goroutine),
         Op::Exit => { deed == Deed::Exits(event.who) || event.who == 0 && deed == Deed::EndsRun }

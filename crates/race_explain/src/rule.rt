@@ -1,10 +1,10 @@
 //! Why an event on a variable, a lock or a once breaks its rule.
 
-use crate::holding::put_holders;
-use crate::illegal::{put_later, put_runlock, put_since, put_unlock};
+use crate::illegal::{put_later, put_since};
 use crate::names::{event_at, goroutine, name_of, who_at};
 use crate::past::{Deed, first_after, is_locked, last_before, readers};
 use crate::put::{put, put_at, put_number, put_number_in};
+use crate::unlocking::put_not_free;
 use race_records::{Event, Named, Op, Trace};
 use std::alloc::{AllocError, Allocator};
 
@@ -85,22 +85,6 @@ pub(crate) fn put_lock_rule<A: Allocator + Copy, B: Allocator>(
         Op::Unlock(lock) => put_not_held(out, trace, at, lock, WRITING, READING),
         Op::RUnlock(lock) => put_not_held(out, trace, at, lock, READING, WRITING),
         _ => Ok(()),
-    }
-}
-
-// Who holds the lock, and which event unlocks it only later.
-fn put_not_free<A: Allocator + Copy, B: Allocator>(
-    out: &mut Vec<u8, A>,
-    trace: &Trace<B>,
-    at: u32,
-    who: u32,
-    lock: u32,
-) -> Result<(), AllocError> {
-    put_holders(out, trace, at, who, lock)?;
-    if is_locked(trace, at, lock) {
-        put_unlock(out, trace, at, lock)
-    } else {
-        put_runlock(out, trace, at, lock)
     }
 }
 

@@ -3,6 +3,7 @@
 
 mod channel_rule;
 mod clean;
+mod count;
 mod explain;
 mod fault;
 mod field;

@@ -1,10 +1,9 @@
 //! What is said of a line as a whole that is at fault.
 
-use crate::field::{fields_of, put_fields};
 use crate::line::put_quoted;
 use crate::put::{put, put_number, put_number_in};
-use crate::word::{bad_column, spare_blank};
-use race_text::{cut_at, split_words, word_named};
+use crate::word::bad_column;
+use race_text::{cut_at, word_named};
 use std::alloc::{AllocError, Allocator};
 
 /// What is said of a last line that no newline ends.
@@ -103,47 +102,3 @@ pub(crate) fn put_unknown_word<A: Allocator>(
 
 const WORDS: &str =
     "a declaration begins with goroutine, var, chan, mutex, rwmutex or once, an event with go, exit, read, write, send, recv, meet, recvclosed, close, default, lock, unlock, rlock, runlock, oncebegin, onceend, oncedone or fault, in version 2 with trylock, tryrlock or tryfail too";
-
-/// How many words are wanted, and how many there are.
-pub(crate) fn put_count<A: Allocator>(out: &mut Vec<u8, A>, line: &[u8]) -> Result<(), AllocError> {
-    let first = cut_at(line, b' ').0;
-    let Some(word) = word_named(first) else {
-        return Ok(());
-    };
-    let fields = fields_of(word);
-    let count = fields.len() as u64;
-    put_number_in(
-        out,
-        "wants ",
-        count,
-        if count == 1 {
-            " word after "
-        } else {
-            " words after "
-        },
-    )?;
-    put_quoted(out, first)?;
-    put(out, &[": "])?;
-    put_fields(out, fields.as_slice())?;
-    let mut words = 0u64;
-    for _ in split_words(line) {
-        words = words.saturating_add(1);
-    }
-    put_number_in(out, "; has ", words.saturating_sub(1), "")?;
-    put_spare_blank(out, line)
-}
-
-// What is said of a blank too many, if there is one.
-fn put_spare_blank<A: Allocator>(out: &mut Vec<u8, A>, line: &[u8]) -> Result<(), AllocError> {
-    let Some(column) = spare_blank(line) else {
-        return Ok(());
-    };
-    put(
-        out,
-        &[if column.saturating_add(1) == line.len() {
-            ", with an empty one after the blank at the end, where no blank is wanted"
-        } else {
-            ", with an empty one between two blanks, where one blank is wanted"
-        }],
-    )
-}

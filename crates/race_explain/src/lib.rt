@@ -14,6 +14,7 @@ pub mod laws;
 mod line;
 mod moment;
 mod names;
+mod near;
 mod operand;
 mod past;
 mod put;

@@ -23,7 +23,7 @@ pub(crate) fn put_channel_rule<A: Allocator, B: Allocator>(
     put(out, &[what])?;
     put(out, &[name_of(trace, Named::Chan(chan))])?;
     match rule {
-        Rule::WrongForm => put_wrong_form(out, trace, chan),
+        Rule::WrongForm => put_wrong_form(out, trace, at, op, chan),
         Rule::SendOnClosed | Rule::CloseOfClosed => {
             put(out, &[", which is closed"])?;
             put_since(out, trace, at, Deed::Closes(chan), " closed it")
@@ -97,6 +97,8 @@ fn put_waiting<A: Allocator, B: Allocator>(
 fn put_wrong_form<A: Allocator, B: Allocator>(
     out: &mut Vec<u8, A>,
     trace: &Trace<B>,
+    at: u32,
+    op: &Op,
     chan: u32,
 ) -> Result<(), AllocError> {
     let capacity = capacity(trace, chan);
@@ -108,6 +110,25 @@ fn put_wrong_form<A: Allocator, B: Allocator>(
         } else {
             "with a buffer a send and its receive are two events, and there are no meets"
         }],
+    )?;
+    match (op, last_before(trace, at, Deed::Closes(chan))) {
+        (Op::Recv(_, _), Some(close)) => put_closed(out, trace, close),
+        _ => Ok(()),
+    }
+}
+
+// By which event the channel of a receive was closed.
+fn put_closed<A: Allocator, B: Allocator>(
+    out: &mut Vec<u8, A>,
+    trace: &Trace<B>,
+    close: u32,
+) -> Result<(), AllocError> {
+    put_at(
+        out,
+        trace,
+        "; ",
+        close,
+        " closed it, so this may be a recvclosed",
     )
 }
 
@@ -147,18 +168,12 @@ fn put_empty<A: Allocator, B: Allocator>(
     let received = count_before(trace, at, Deed::Receives(chan));
     put_number_in(out, "", u64::from(received), " received")?;
     if let Some(close) = last_before(trace, at, Deed::Closes(chan)) {
-        return put_at(
-            out,
-            trace,
-            "; ",
-            close,
-            " closed it, so this may be a recvclosed",
-        );
+        return put_closed(out, trace, close);
     }
     put_missing_send(out, trace, at, op, chan)
 }
 
-// Which event sends only later, if it sends the value that the receive finds, or that a send of it may be missing.
+// Which event sends only later the value that the receive finds, or that a send of it may be missing.
 fn put_missing_send<A: Allocator, B: Allocator>(
     out: &mut Vec<u8, A>,
     trace: &Trace<B>,
@@ -169,10 +184,9 @@ fn put_missing_send<A: Allocator, B: Allocator>(
     let Op::Recv(_, value) = op else {
         return Ok(());
     };
-    if let Some(later) = first_after(trace, at, Deed::Sends(chan)) {
-        if value_of(trace, later) == *value {
-            return put_later(out, trace, at, Deed::Sends(chan), " sends this value", "");
-        }
+    let sends = Deed::SendsValue(chan, *value);
+    if first_after(trace, at, sends).is_some() {
+        return put_later(out, trace, at, sends, " sends this value", "");
     }
     put_number_in(out, "; a send of ", *value, " may be missing before it")
 }
@@ -184,10 +198,14 @@ fn put_wrong_value<A: Allocator, B: Allocator>(
     op: &Op,
     chan: u32,
 ) -> Result<(), AllocError> {
-    if let Op::Recv(_, value) = op {
-        put_number_in(out, " finds ", *value, "")?;
-    }
+    let Op::Recv(_, value) = op else {
+        return Ok(());
+    };
+    put_number_in(out, " finds ", *value, "")?;
     put_front(out, trace, at, chan)?;
+    if last_before(trace, at, Deed::SendsValue(chan, *value)).is_none() {
+        return put_unsent(out, trace, at, chan, *value);
+    }
     match front(trace, at, chan) {
         Some(send) => {
             put_number_in(
@@ -198,6 +216,28 @@ fn put_wrong_value<A: Allocator, B: Allocator>(
             )
         }
         None => Ok(()),
+    }
+}
+
+// Which event sends the value only later, or that none does.
+fn put_unsent<A: Allocator, B: Allocator>(
+    out: &mut Vec<u8, A>,
+    trace: &Trace<B>,
+    at: u32,
+    chan: u32,
+    value: u64,
+) -> Result<(), AllocError> {
+    match first_after(trace, at, Deed::SendsValue(chan, value)) {
+        Some(later) => {
+            put_at(out, trace, "; ", later, "")?;
+            put_number_in(out, " sends ", value, ", but comes later")
+        }
+        None => put_number_in(
+            out,
+            "; no event sends ",
+            value,
+            ", so a send of it may be missing before",
+        ),
     }
 }
 

@@ -1,6 +1,6 @@
 //! What a clean trace has, and what no rule can see of it.
 
-use crate::names::name_of;
+use crate::names::{name_of, numbered};
 use crate::past::{Deed, last_before};
 use crate::put::{put, put_at, put_number_in};
 use race_records::{Kind, Named, Op, Operand, Trace, failed_at, says};
@@ -56,7 +56,8 @@ fn used<A: Allocator + Copy, B: Allocator>(
     Ok(used)
 }
 
-fn note(used: &mut [bool], number: u32) {
+/// Notes the object of this number.
+pub(crate) fn note(used: &mut [bool], number: u32) {
     let index = number as usize;
     if index < used.len() {
         used[index] = true;
@@ -133,17 +134,6 @@ fn put_unused<A: Allocator, B: Allocator>(
         put_number_in(out, " and ", u64::from(count - LISTED), " more")?;
     }
     put(out, &[if count == 0 { "" } else { "\n" }])
-}
-
-// The object of the kind with this number.
-fn numbered(kind: Kind, number: u32) -> Named {
-    match kind {
-        Kind::Goroutine => Named::Goroutine(number),
-        Kind::Var => Named::Var(number),
-        Kind::Chan => Named::Chan(number),
-        Kind::Lock => Named::Lock(number),
-        Kind::Once => Named::Once(number),
-    }
 }
 
 // Whether an event ends the run. Else nothing says that the trace is whole.

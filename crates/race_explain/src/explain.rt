@@ -63,7 +63,6 @@ fn is_of_words(cause: TextCause) -> bool {
         TextCause::NoNewline => false,
         TextCause::BadByte => false,
         TextCause::UnknownWord => false,
-        TextCause::WrongCount => false,
         _ => true,
     }
 }

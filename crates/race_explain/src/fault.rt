@@ -3,14 +3,15 @@ ghost use Rattle.std.specs.Prelude.{OnOk};
 ghost use Rattle.race_explain.specs.Explained as spec;
 ghost use Rattle.race_explain.specs.Marked.{IsMarkFor, IsMarked};
 
+use crate::count::{count_column, put_count};
 use crate::header::{header_column, looks_like};
 use crate::line::put_line;
 use crate::operand::{name_in, put_whole_line, put_word};
 use crate::put::put;
-use crate::sentence::{put_bad_byte, put_count, put_unended, put_unknown_word};
-use crate::word::{bad_column, count_column, faulty_word};
+use crate::sentence::{put_bad_byte, put_unended, put_unknown_word};
+use crate::word::{bad_column, faulty_word};
 use race_records::Trace;
-use race_text::{TextCause, TextFault, cut_at, word_named};
+use race_text::{TextCause, TextFault};
 use std::alloc::{AllocError, Allocator};
 
 /// A line at fault, the trace that is read from the lines before it, and what of the input follows it.
@@ -31,10 +32,7 @@ fn column_of<A: Allocator>(faulty: &Faulty<'_, A>) -> usize
         TextCause::BadHeader => header_column(line),
         TextCause::NoNewline => line.len(),
         TextCause::BadByte => bad_column(line),
-        TextCause::WrongCount => match word_named(cut_at(line, b' ').0) {
-            Some(word) => count_column(word, line),
-            None => 0,
-        },
+        TextCause::WrongCount => count_column(faulty.before.as_ref(), line),
         cause => match &faulty.before {
             Some(before) => match faulty_word(before.decls(), line, cause) {
                 Some(found) => {
@@ -72,7 +70,7 @@ fn put_sentence<A: Allocator, B: Allocator>(
         TextCause::NoNewline => put_unended(out, faulty.fault.line),
         TextCause::BadByte => put_bad_byte(out, faulty.line),
         TextCause::UnknownWord => put_unknown_word(out, faulty.line),
-        TextCause::WrongCount => put_count(out, faulty.line),
+        TextCause::WrongCount => put_count(out, faulty.before.as_ref(), faulty.line),
         cause => match &faulty.before {
             Some(before) => match faulty_word(before.decls(), faulty.line, cause) {
                 Some(found) => put_word(out, faulty, before, &found),

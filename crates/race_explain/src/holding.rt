@@ -92,19 +92,18 @@ fn end<A: Allocator>(held: &mut Vec<Holding, A>, who: u32, lock: u32, reading: b
     }
 }
 
-/// Puts who holds the lock before the event at the index, and since which event.
-pub(crate) fn put_holders<A: Allocator + Copy, B: Allocator>(
+/// Puts who holds the lock, by what is held, and since which event.
+pub(crate) fn put_holders<A: Allocator, B: Allocator>(
     out: &mut Vec<u8, A>,
     trace: &Trace<B>,
-    at: u32,
+    held: &[Holding],
     who: u32,
     lock: u32,
 ) -> Result<(), AllocError> {
-    let held = held_before(*out.allocator(), trace, at)?;
     put(out, &[name_of(trace, Named::Lock(lock)), " is held"])?;
     let mut count = 0usize;
     let mut is_own = false;
-    for holding in held.as_slice() {
+    for holding in held {
         if holding.lock == lock {
             if count < LISTED {
                 put_holder(out, trace, *holding, who, count == 0)?;

@@ -79,7 +79,10 @@ fn put_not_running<A: Allocator, B: Allocator>(
 ) -> Result<(), AllocError> {
     if !runs_before(trace, at, event.who) {
         put(out, &[goroutine(trace, event.who)])?;
-        return put_idle(out, trace, at, event.who);
+        return match started_instead(trace, at, event) {
+            Some(started) => put_exchanged(out, trace, started),
+            None => put_idle(out, trace, at, event.who),
+        };
     }
     match event.op {
         Op::Meet(receiver, _, _) => {
@@ -88,6 +91,37 @@ fn put_not_running<A: Allocator, B: Allocator>(
         }
         _ => Ok(()),
     }
+}
+
+// Which running goroutine the event starts, where nothing ever starts its own.
+fn started_instead<A: Allocator>(trace: &Trace<A>, at: u32, event: &Event) -> Option<u32> {
+    let Op::Go(started) = event.op else {
+        return None;
+    };
+    let starts = Deed::Starts(event.who);
+    let is_started = last_before(trace, at, starts).is_some()
+        || first_after(trace, at, starts).is_some();
+    if is_started || !runs_before(trace, at, started) {
+        None
+    } else {
+        Some(started)
+    }
+}
+
+// Why the starter of a running goroutine doesn't run.
+fn put_exchanged<A: Allocator, B: Allocator>(
+    out: &mut Vec<u8, A>,
+    trace: &Trace<B>,
+    started: u32,
+) -> Result<(), AllocError> {
+    put(
+        out,
+        &[
+            " isn't running: no event before this one starts it; ",
+            goroutine(trace, started),
+            " is running, so the two names may be exchanged",
+        ],
+    )
 }
 
 // Why a goroutine doesn't run.
@@ -184,8 +218,8 @@ fn put_no_fault<A: Allocator, B: Allocator>(
     }
 }
 
-/// Puts which event after this one unlocks the lock, or that an unlock may be missing.
-pub(crate) fn put_unlock<A: Allocator, B: Allocator>(
+// Puts which event after this one unlocks the lock, or that an unlock may be missing.
+fn put_unlock<A: Allocator, B: Allocator>(
     out: &mut Vec<u8, A>,
     trace: &Trace<B>,
     at: u32,
@@ -195,8 +229,8 @@ pub(crate) fn put_unlock<A: Allocator, B: Allocator>(
     put_later(out, trace, at, Deed::Unlocks(lock), " unlocks it", missing)
 }
 
-/// Puts which event after this one unlocks the lock from reading, or that a runlock may be missing.
-pub(crate) fn put_runlock<A: Allocator, B: Allocator>(
+// Puts which event after this one unlocks the lock from reading, or that a runlock may be missing.
+fn put_runlock<A: Allocator, B: Allocator>(
     out: &mut Vec<u8, A>,
     trace: &Trace<B>,
     at: u32,

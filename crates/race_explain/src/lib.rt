@@ -3,6 +3,7 @@
 
 mod channel_rule;
 mod clean;
+mod count;
 mod explain;
 mod fault;
 mod field;
@@ -13,6 +14,7 @@ pub mod laws;
 mod line;
 mod moment;
 mod names;
+mod near;
 mod operand;
 mod past;
 mod put;
@@ -20,6 +22,7 @@ mod race;
 mod rule;
 mod sentence;
 mod shown;
+mod unlocking;
 mod word;
 
 pub use explain::{explain_fault, explain_trace};

@@ -2,7 +2,7 @@
 ghost use Rattle.std.specs.Prelude.{◌≡◌};
 ghost use Rattle.race_explain.specs.Shown.{line_of};
 
-use race_records::{Event, Named, Trace};
+use race_records::{Event, Kind, Named, Trace};
 use std::alloc::Allocator;
 
 /// The name of what is declared; a number that isn't declared has none.
@@ -12,6 +12,17 @@ pub(crate) fn name_of<A: Allocator>(trace: &Trace<A>, named: Named) -> &str {
         decls.name(named)
     } else {
         ""
+    }
+}
+
+/// The object of the kind with this number.
+pub(crate) fn numbered(kind: Kind, number: u32) -> Named {
+    match kind {
+        Kind::Goroutine => Named::Goroutine(number),
+        Kind::Var => Named::Var(number),
+        Kind::Chan => Named::Chan(number),
+        Kind::Lock => Named::Lock(number),
+        Kind::Once => Named::Once(number),
     }
 }
 

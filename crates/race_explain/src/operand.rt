@@ -5,6 +5,8 @@ ghost use Rattle.race_records.specs.Name.{is_name};
 use crate::fault::Faulty;
 use crate::field::{form_of, one_of};
 use crate::line::put_quoted;
+use crate::names::{name_of, numbered};
+use crate::near::Guess;
 use crate::put::{put, put_at, put_number_in};
 use crate::word::FaultyWord;
 use race_records::{Decls, Kind, Named, Object, OperandKind, Trace, is_name};
@@ -22,7 +24,7 @@ pub(crate) fn put_word<A: Allocator, B: Allocator>(
     let name = name_in(before.decls(), found, cause).0;
     match cause {
         TextCause::Taken => put_taken(out, before.decls(), name),
-        TextCause::Unknown => put_unknown(out, faulty, name),
+        TextCause::Unknown => put_unknown(out, faulty, before, found, name),
         TextCause::WrongKind => put_wrong_kind(out, before.decls(), found, name),
         TextCause::TooMany => {
             put_quoted(out, found.word)?;
@@ -209,18 +211,52 @@ fn object_name(object: Object) -> &'static str {
     }
 }
 
-// What is said of a name that isn't declared, and which line declares it only later.
+// What is said of a name that isn't declared, and which line declares it only later, or which name may be meant.
 fn put_unknown<A: Allocator, B: Allocator>(
     out: &mut Vec<u8, A>,
     faulty: &Faulty<'_, B>,
+    before: &Trace<B>,
+    found: &FaultyWord<'_>,
     name: &[u8],
 ) -> Result<(), AllocError> {
     put_quoted(out, name)?;
     put(out, &[" is declared by no line before"])?;
-    match declared_after(faulty, name) {
-        Some(line) => put_number_in(out, "; line ", line, " declares it, but comes later"),
+    if let Some(line) = declared_after(faulty, name) {
+        return put_number_in(out, "; line ", line, " declares it, but comes later");
+    }
+    match wanted_kind(found).and_then(|kind| meant(before, kind, name)) {
+        Some(known) => put(out, &["; did you mean \"", known, "\"?"]),
         None => Ok(()),
     }
+}
+
+// The kind of the name that is wanted in the word.
+fn wanted_kind(found: &FaultyWord<'_>) -> Option<Kind> {
+    match found.field {
+        Field::Operand(OperandKind::Object(kind)) => Some(kind),
+        Field::Operand(OperandKind::RwMutex) => Some(Kind::Lock),
+        Field::Operand(OperandKind::Cases) => Some(Kind::Chan),
+        Field::Operand(OperandKind::Cause) => if is_of_lock(found.word) {
+            Some(Kind::Lock)
+        } else {
+            Some(Kind::Chan)
+        },
+        _ => None,
+    }
+}
+
+// Whether the fault is that of an unlock.
+fn is_of_lock(fault: &[u8]) -> bool {
+    fault.starts_with(b"unlock:") || fault.starts_with(b"runlock:")
+}
+
+// The one object of the kind that is called nearly so.
+fn meant<'a, A: Allocator>(before: &'a Trace<A>, kind: Kind, name: &[u8]) -> Option<&'a str> {
+    let mut guess = Guess::new();
+    for number in 0..before.decls().count(kind) {
+        guess = guess.look_at(name, name_of(before, numbered(kind, number)));
+    }
+    guess.only()
 }
 
 // Which line after the one at fault declares the name.

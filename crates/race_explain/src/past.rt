@@ -14,8 +14,12 @@ pub(crate) enum Deed {
     EndsRun,
     /// The variable of this number is written.
     Writes(u32),
+    /// This value is written to it.
+    WritesValue(u32, u64),
     /// A value is sent on the buffered channel of this number.
     Sends(u32),
+    /// This value is sent on it.
+    SendsValue(u32, u64),
     /// A value is received from it.
     Receives(u32),
     /// The channel is closed.
@@ -34,14 +38,18 @@ pub(crate) enum Deed {
     Ends(u32),
 }
 
-// Whether the event does so.
-fn does(event: &Event, deed: Deed) -> bool {
+/// Whether the event does so.
+pub(crate) fn does(event: &Event, deed: Deed) -> bool {
     match &event.op {
         Op::Go(goroutine) => deed == Deed::Starts(*goroutine),
         Op::Exit => { deed == Deed::Exits(event.who) || event.who == 0 && deed == Deed::EndsRun }
         Op::Fault(_) => deed == Deed::EndsRun,
-        Op::Write(var, _) => deed == Deed::Writes(*var),
-        Op::Send(chan, _) => deed == Deed::Sends(*chan),
+        Op::Write(var, value) => {
+            deed == Deed::Writes(*var) || deed == Deed::WritesValue(*var, *value)
+        }
+        Op::Send(chan, value) => {
+            deed == Deed::Sends(*chan) || deed == Deed::SendsValue(*chan, *value)
+        }
         Op::Recv(chan, _) => deed == Deed::Receives(*chan),
         Op::Close(chan) => deed == Deed::Closes(*chan),
         Op::Lock(lock) => deed == Deed::Locks(*lock),

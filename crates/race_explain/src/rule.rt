@@ -1,10 +1,10 @@
 //! Why an event on a variable, a lock or a once breaks its rule.
 
-use crate::holding::put_holders;
-use crate::illegal::{put_later, put_runlock, put_since, put_unlock};
+use crate::illegal::{put_later, put_since};
 use crate::names::{event_at, goroutine, name_of, who_at};
 use crate::past::{Deed, first_after, is_locked, last_before, readers};
 use crate::put::{put, put_at, put_number, put_number_in};
+use crate::unlocking::put_not_free;
 use race_records::{Event, Named, Op, Trace};
 use std::alloc::{AllocError, Allocator};
 
@@ -39,23 +39,48 @@ pub(crate) fn put_stale_read<A: Allocator, B: Allocator>(
             ],
         )?,
     }
-    put_later_write(out, trace, at, var, value)
+    put_origin(out, trace, at, var, value)
 }
 
-// The next write of the variable, if it writes this value, or else that a write of it may be missing.
-fn put_later_write<A: Allocator, B: Allocator>(
+// Where the value may come from: a write that stands too early or too late, or one that is missing.
+fn put_origin<A: Allocator, B: Allocator>(
     out: &mut Vec<u8, A>,
     trace: &Trace<B>,
     at: u32,
     var: u32,
     value: u64,
 ) -> Result<(), AllocError> {
-    if let Some(later) = first_after(trace, at, Deed::Writes(var)) {
-        if value_of(trace, later) == value {
-            return put_later(out, trace, at, Deed::Writes(var), " writes this value", "");
-        }
+    let order = ": the two lines may stand in the wrong order";
+    if had_before(trace, at, var, value) {
+        put(
+            out,
+            &["; before that write ", name_of(trace, Named::Var(var))],
+        )?;
+        return put_number_in(out, " was ", value, order);
     }
-    put_number_in(out, "; a write of ", value, " may be missing before it")
+    match first_after(trace, at, Deed::WritesValue(var, value)) {
+        Some(later) => {
+            put_at(out, trace, "; ", later, ", by ")?;
+            put(
+                out,
+                &[who_at(trace, later), ", writes this value, but comes later"],
+            )?;
+            put(out, &[order])
+        }
+        None => put_number_in(out, "; a write of ", value, " may be missing before it"),
+    }
+}
+
+// Whether the variable had this value until another goroutine wrote the one that it has.
+fn had_before<A: Allocator>(trace: &Trace<A>, at: u32, var: u32, value: u64) -> bool {
+    let Some(write) = last_before(trace, at, Deed::Writes(var)) else {
+        return false;
+    };
+    let former = match last_before(trace, write, Deed::Writes(var)) {
+        Some(former) => value_of(trace, former),
+        None => 0,
+    };
+    former == value && who_at(trace, write) != who_at(trace, at)
 }
 
 // The value of an access or of a send.
@@ -85,22 +110,6 @@ pub(crate) fn put_lock_rule<A: Allocator + Copy, B: Allocator>(
         Op::Unlock(lock) => put_not_held(out, trace, at, lock, WRITING, READING),
         Op::RUnlock(lock) => put_not_held(out, trace, at, lock, READING, WRITING),
         _ => Ok(()),
-    }
-}
-
-// Who holds the lock, and which event unlocks it only later.
-fn put_not_free<A: Allocator + Copy, B: Allocator>(
-    out: &mut Vec<u8, A>,
-    trace: &Trace<B>,
-    at: u32,
-    who: u32,
-    lock: u32,
-) -> Result<(), AllocError> {
-    put_holders(out, trace, at, who, lock)?;
-    if is_locked(trace, at, lock) {
-        put_unlock(out, trace, at, lock)
-    } else {
-        put_runlock(out, trace, at, lock)
     }
 }
 

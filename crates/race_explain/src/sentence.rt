@@ -1,10 +1,10 @@
 //! What is said of a line as a whole that is at fault.
 
-use crate::field::{fields_of, put_fields};
 use crate::line::put_quoted;
+use crate::near::{Guess, is_same};
 use crate::put::{put, put_number, put_number_in};
-use crate::word::{bad_column, spare_blank};
-use race_text::{cut_at, split_words, word_named};
+use crate::word::bad_column;
+use race_text::{cut_at, word_named};
 use std::alloc::{AllocError, Allocator};
 
 /// What is said of a last line that no newline ends.
@@ -98,52 +98,82 @@ pub(crate) fn put_unknown_word<A: Allocator>(
     if word == b"body".as_slice() || word == b"do".as_slice() || word == b"enddo".as_slice() {
         return put(out, &[" is a word of a program, not of a trace"]);
     }
-    put(out, &[" begins no line of a trace: ", WORDS])
+    put(out, &[" begins no line of a trace: "])?;
+    if WORDLESS.iter().any(|known| is_same(word, *known)) {
+        return put(out, &[NO_WORD]);
+    }
+    match meant(word) {
+        Some(known) => put(out, &["did you mean \"", known, "\"?"]),
+        None => put(out, &[WORDS]),
+    }
 }
+
+// The one word of a trace that is nearly this one.
+fn meant(word: &[u8]) -> Option<&'static str> {
+    let mut guess = Guess::new();
+    for known in &KNOWN {
+        guess = guess.look_at(word, *known);
+    }
+    guess.only()
+}
+
+// The words that a line may begin with, in both versions.
+const KNOWN: [&str; 27] = [
+    "goroutine",
+    "var",
+    "chan",
+    "mutex",
+    "rwmutex",
+    "once",
+    "go",
+    "exit",
+    "read",
+    "write",
+    "send",
+    "recv",
+    "meet",
+    "recvclosed",
+    "close",
+    "default",
+    "lock",
+    "unlock",
+    "rlock",
+    "runlock",
+    "trylock",
+    "tryrlock",
+    "tryfail",
+    "oncebegin",
+    "onceend",
+    "oncedone",
+    "fault",
+];
+
+// What a recorder may call operations that a trace has no word for.
+const WORDLESS: [&str; 20] = [
+    "add",
+    "atomic",
+    "broadcast",
+    "cancel",
+    "cas",
+    "compareandswap",
+    "cond",
+    "context",
+    "done",
+    "get",
+    "load",
+    "pool",
+    "put",
+    "signal",
+    "store",
+    "swap",
+    "timer",
+    "wait",
+    "waitgroup",
+    "wg",
+];
+
+const NO_WORD: &str =
+    "WaitGroups, atomics, Conds and the like have no word of their own; what to write for them: docs/RECORDING.md, \"What has no word\"";
 
 const WORDS: &str =
     "a declaration begins with goroutine, var, chan, mutex, rwmutex or once, an event with go, exit, read, write, send, recv, meet, recvclosed, close, default, lock, unlock, rlock, runlock, oncebegin, onceend, oncedone or fault, in version 2 with trylock, tryrlock or tryfail too";
-
-/// How many words are wanted, and how many there are.
-pub(crate) fn put_count<A: Allocator>(out: &mut Vec<u8, A>, line: &[u8]) -> Result<(), AllocError> {
-    let first = cut_at(line, b' ').0;
-    let Some(word) = word_named(first) else {
-        return Ok(());
-    };
-    let fields = fields_of(word);
-    let count = fields.len() as u64;
-    put_number_in(
-        out,
-        "wants ",
-        count,
-        if count == 1 {
-            " word after "
-        } else {
-            " words after "
-        },
-    )?;
-    put_quoted(out, first)?;
-    put(out, &[": "])?;
-    put_fields(out, fields.as_slice())?;
-    let mut words = 0u64;
-    for _ in split_words(line) {
-        words = words.saturating_add(1);
-    }
-    put_number_in(out, "; has ", words.saturating_sub(1), "")?;
-    put_spare_blank(out, line)
-}
-
-// What is said of a blank too many, if there is one.
-fn put_spare_blank<A: Allocator>(out: &mut Vec<u8, A>, line: &[u8]) -> Result<(), AllocError> {
-    let Some(column) = spare_blank(line) else {
-        return Ok(());
-    };
-    put(
-        out,
-        &[if column.saturating_add(1) == line.len() {
-            ", with an empty one after the blank at the end, where no blank is wanted"
-        } else {
-            ", with an empty one between two blanks, where one blank is wanted"
-        }],
-    )
-}

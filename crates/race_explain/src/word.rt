@@ -4,7 +4,7 @@ ghost use Rattle.race_text.specs.Words.{is_bad_byte, has_bad_byte};
 
 use crate::field::fields_of;
 use race_records::Decls;
-use race_text::{Field, TextCause, Word, cut_at, fields_cause, word_named};
+use race_text::{Field, TextCause, cut_at, fields_cause, word_named};
 use std::alloc::Allocator;
 
 /// A word after the first that is at fault, as what it is wanted, and where it begins.
@@ -41,44 +41,17 @@ pub(crate) fn faulty_word<'a, A: Allocator>(
     None
 }
 
-/// Where the first blank too many stands or the first word too many begins; or the end of the line, where words are missing.
-pub(crate) fn count_column(word: Word, line: &[u8]) -> usize {
-    match spare_blank(line) {
-        Some(column) => column.min(end_of_words(word, line)),
-        None => end_of_words(word, line),
+/// The line from the word of this number on, counted from 0, if it has so many.
+pub(crate) fn from_word(line: &[u8], number: usize) -> Option<&[u8]> {
+    let mut left = line;
+    for _ in 0..number {
+        left = cut_at(left, b' ').1?;
     }
+    Some(left)
 }
 
-// Where the first word too many begins, or the end of the line where there is none.
-fn end_of_words(word: Word, line: &[u8]) -> usize {
-    let mut left = cut_at(line, b' ').1;
-    for _ in 0..fields_of(word).len() {
-        let Some(bytes) = left else {
-            return line.len();
-        };
-        left = cut_at(bytes, b' ').1;
-    }
-    match left {
-        Some(bytes) => column_in(line, bytes),
-        None => line.len(),
-    }
-}
-
-/// Where the first blank stands that comes after another one or ends the line.
-pub(crate) fn spare_blank(line: &[u8]) -> Option<usize> {
-    let mut is_after_blank = false;
-    for column in 0..line.len() {
-        let is_blank = line[column] == b' ';
-        if is_blank && (is_after_blank || column + 1 == line.len()) {
-            return Some(column);
-        }
-        is_after_blank = is_blank;
-    }
-    None
-}
-
-// Where the last bytes of the line begin.
-fn column_in(line: &[u8], last: &[u8]) -> usize {
+/// Where the last bytes of the line begin.
+pub(crate) fn column_in(line: &[u8], last: &[u8]) -> usize {
     line.len().saturating_sub(last.len())
 }
 

@@ -1,0 +1,193 @@
+//! A line with too many words or too few: where it is marked, and what is said of it.
+
+use crate::field::{fields_of, one_of, put_fields};
+use crate::line::put_quoted;
+use crate::put::{put, put_number_in};
+use crate::word::{column_in, from_word};
+use race_records::{Decls, Trace};
+use race_text::{Field, Word, cut_at, fields_cause, split_words, word_named};
+use std::alloc::{AllocError, Allocator};
+
+/// The longest word that begins a line.
+const LONGEST: usize = 10;
+
+/// Where the line is marked: at a second line in it, at the first blank or word too many, where a word is missing, or else at
+/// its end.
+pub(crate) fn count_column<A: Allocator>(before: Option<&Trace<A>>, line: &[u8]) -> usize {
+    let Some(word) = word_named(cut_at(line, b' ').0) else {
+        return 0;
+    };
+    let fields = fields_of(word);
+    if let Some(joined) = joined_line(fields.len(), line) {
+        return column_in(line, joined);
+    }
+    match spare_blank(line) {
+        Some(column) => column.min(column_of_word(line, fields.len())),
+        None => match before.and_then(|trace| misfit(trace.decls(), fields.as_slice(), line)) {
+            Some(number) => column_of_word(line, number),
+            None => column_of_word(line, fields.len()),
+        },
+    }
+}
+
+// Where the word of this number begins, counted from 0 after the first one, or the end of the line where there is none.
+fn column_of_word(line: &[u8], number: usize) -> usize {
+    match from_word(line, number.saturating_add(1)) {
+        Some(bytes) => column_in(line, bytes),
+        None => line.len(),
+    }
+}
+
+// Where the first blank stands that comes after another one or ends the line.
+fn spare_blank(line: &[u8]) -> Option<usize> {
+    let mut is_after_blank = false;
+    for column in 0..line.len() {
+        let is_blank = line[column] == b' ';
+        if is_blank && (is_after_blank || column + 1 == line.len()) {
+            return Some(column);
+        }
+        is_after_blank = is_blank;
+    }
+    None
+}
+
+// The line that begins after as many words as are wanted, or within the last of them, where a newline is missing.
+fn joined_line(wanted: usize, line: &[u8]) -> Option<&[u8]> {
+    let last = from_word(line, wanted)?;
+    let (word, others) = cut_at(last, b' ');
+    let others = others?;
+    if is_whole(others) {
+        return Some(others);
+    }
+    for start in word.len().saturating_sub(LONGEST).max(1)..word.len() {
+        let part = &last[start.min(last.len())..];
+        if is_whole(part) {
+            return Some(part);
+        }
+    }
+    None
+}
+
+// Whether a word that begins a line comes first, and as many as it wants after it.
+fn is_whole(bytes: &[u8]) -> bool {
+    match word_named(cut_at(bytes, b' ').0) {
+        Some(word) => from_word(bytes, fields_of(word).len()).is_some(),
+        None => false,
+    }
+}
+
+// Before how many words others are missing or too many, where all words fit else: of such places the last.
+fn misfit<A: Allocator>(decls: &Decls<A>, fields: &[Field], line: &[u8]) -> Option<usize> {
+    let count = count_words(line);
+    let spare = count.saturating_sub(fields.len());
+    let missing = fields.len().saturating_sub(count);
+    let mut found = None;
+    for number in 0..fitting(decls, fields, line).saturating_add(1) {
+        let others = &fields[number.saturating_add(missing).min(fields.len())..];
+        let rest = from_word(line, number.saturating_add(spare).saturating_add(1));
+        if fields_cause(decls, others, rest).is_none() {
+            found = Some(number);
+        }
+    }
+    found
+}
+
+// How many words after the first are what is wanted there, before one that isn't.
+fn fitting<A: Allocator>(decls: &Decls<A>, fields: &[Field], line: &[u8]) -> usize {
+    let mut left = cut_at(line, b' ').1;
+    let mut count = 0usize;
+    for field in fields {
+        let Some(bytes) = left else {
+            return count;
+        };
+        let (word, others) = cut_at(bytes, b' ');
+        if fields_cause(decls, &[*field], Some(word)).is_some() {
+            return count;
+        }
+        count = count.saturating_add(1);
+        left = others;
+    }
+    count
+}
+
+// How many words come after the first.
+fn count_words(line: &[u8]) -> usize {
+    let mut words = 0usize;
+    for _ in split_words(line) {
+        words = words.saturating_add(1);
+    }
+    words.saturating_sub(1)
+}
+
+/// Puts how many words are wanted, how many there are, and what may be wrong.
+pub(crate) fn put_count<A: Allocator, B: Allocator>(
+    out: &mut Vec<u8, A>,
+    before: Option<&Trace<B>>,
+    line: &[u8],
+) -> Result<(), AllocError> {
+    let first = cut_at(line, b' ').0;
+    let Some(word) = word_named(first) else {
+        return Ok(());
+    };
+    let fields = fields_of(word);
+    put_wanted(out, first, fields.as_slice())?;
+    put_number_in(out, "; has ", count_words(line) as u64, "")?;
+    if let Some(column) = spare_blank(line) {
+        put_spare_blank(out, column.saturating_add(1) == line.len())?;
+    } else if let Some(trace) = before {
+        put_missing(out, trace.decls(), fields.as_slice(), line)?;
+    }
+    match joined_line(fields.len(), line) {
+        Some(joined) => {
+            put(out, &["; a newline may be missing before "])?;
+            put_quoted(out, cut_at(joined, b' ').0)
+        }
+        None => Ok(()),
+    }
+}
+
+// How many words are wanted, and what each is.
+fn put_wanted<A: Allocator>(
+    out: &mut Vec<u8, A>,
+    first: &[u8],
+    fields: &[Field],
+) -> Result<(), AllocError> {
+    let count = fields.len() as u64;
+    let words = if count == 1 {
+        " word after "
+    } else {
+        " words after "
+    };
+    put_number_in(out, "wants ", count, words)?;
+    put_quoted(out, first)?;
+    put(out, &[": "])?;
+    put_fields(out, fields)
+}
+
+// What is said of a blank too many.
+fn put_spare_blank<A: Allocator>(out: &mut Vec<u8, A>, is_at_end: bool) -> Result<(), AllocError> {
+    put(
+        out,
+        &[if is_at_end {
+            ", with an empty one after the blank at the end, where no blank is wanted"
+        } else {
+            ", with an empty one between two blanks, where one blank is wanted"
+        }],
+    )
+}
+
+// Which word is missing, where it is one alone and all others fit.
+fn put_missing<A: Allocator, B: Allocator>(
+    out: &mut Vec<u8, A>,
+    decls: &Decls<B>,
+    fields: &[Field],
+    line: &[u8],
+) -> Result<(), AllocError> {
+    if count_words(line).saturating_add(1) != fields.len() {
+        return Ok(());
+    }
+    match misfit(decls, fields, line).and_then(|number| fields.get(number)) {
+        Some(field) => put(out, &["; ", one_of(*field), " is missing at the mark"]),
+        None => Ok(()),
+    }
+}

@@ -1,0 +1,85 @@
+//! Who holds a lock that isn't free, and which unlock comes too late or may be missing.
+
+use crate::clean::note;
+use crate::holding::{Holding, held_before, put_holders};
+use crate::names::goroutine;
+use crate::past::{Deed, does, is_locked};
+use crate::put::{put, put_at};
+use race_records::{Kind, Trace};
+use std::alloc::{AllocError, Allocator};
+
+/// Puts who holds the lock that the goroutine locks, and which event unlocks it only later or whose unlock may be missing.
+pub(crate) fn put_not_free<A: Allocator + Copy, B: Allocator>(
+    out: &mut Vec<u8, A>,
+    trace: &Trace<B>,
+    at: u32,
+    who: u32,
+    lock: u32,
+) -> Result<(), AllocError> {
+    let alloc = *out.allocator();
+    let held = held_before(alloc, trace, at)?;
+    put_holders(out, trace, held.as_slice(), who, lock)?;
+    let reading = !is_locked(trace, at, lock);
+    if let Some(later) = unlocked_after(alloc, trace, at, lock, reading)? {
+        let what = if reading {
+            " unlocks it from reading, but comes later"
+        } else {
+            " unlocks it, but comes later"
+        };
+        return put_at(out, trace, "; ", later, what);
+    }
+    put(
+        out,
+        &[if reading {
+            "; a runlock"
+        } else {
+            "; an unlock"
+        }],
+    )?;
+    if let Some(holder) = only_holder(held.as_slice(), lock) {
+        put(out, &[" by ", goroutine(trace, holder)])?;
+    }
+    put(out, &[" may be missing in between"])
+}
+
+// The goroutine that alone holds the lock.
+fn only_holder(held: &[Holding], lock: u32) -> Option<u32> {
+    let mut found = None;
+    for holding in held {
+        if holding.lock == lock {
+            if found.is_some_and(|who| who != holding.who) {
+                return None;
+            }
+            found = Some(holding.who);
+        }
+    }
+    found
+}
+
+// The first unlock after the event by a goroutine that hasn't locked from the event on: what it unlocks was locked before.
+fn unlocked_after<A: Allocator, B: Allocator>(
+    alloc: A,
+    trace: &Trace<B>,
+    from: u32,
+    lock: u32,
+    reading: bool,
+) -> Result<Option<u32>, AllocError> {
+    let (locks, unlocks) = if reading {
+        (Deed::ReadLocks(lock), Deed::ReadUnlocks(lock))
+    } else {
+        (Deed::Locks(lock), Deed::Unlocks(lock))
+    };
+    let mut relocked = vec![in alloc; false; trace.decls().count(Kind::Goroutine) as usize]?;
+    let mut at = 0;
+    for event in trace.events() {
+        if at >= from && does(event, locks) {
+            note(relocked.as_mut_slice(), event.who);
+        }
+        let is_own = relocked.get(event.who as usize).copied() == Some(true);
+        if at >= from && does(event, unlocks) && !is_own {
+            return Ok(Some(at));
+        }
+        at = at.saturating_add(1);
+    }
+    Ok(None)
+}

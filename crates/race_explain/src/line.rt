@@ -11,6 +11,9 @@ const SHOWN: usize = 200;
 /// How many of them come before the marked column at most.
 const SHOWN_BEFORE: usize = 120;
 
+// Definitions cite these numbers, so each is written down twice.
+const _: () = prove!(SHOWN == 200 && SHOWN_BEFORE == 120);
+
 /// A line of a text, what comes before it, and what follows it.
 #[derive(Clone, Copy)]
 pub(crate) struct Cut<'a> {

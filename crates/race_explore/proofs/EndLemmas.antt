@@ -1,11 +1,12 @@
 -- How the walk begins, and what it comes to.
-use Rattle.std.proofs.Common.{ℕ, ◌≡◌, ◌<◌, ◌≤◌, ◌+◌, ◌^◌, ◌&&◌, Bool, Result, Ok, Err, true, List, All, sym, ap, ◌∙◌, arith}
-use Rattle.std.proofs.lemmas.{Bool.{and_parts, leb-true}, List.Elements.{All-weaker}}
+use Rattle.std.proofs.Common.{ℕ, ◌≡◌, ◌<◌, ◌≤◌, ◌+◌, ◌^◌, ◌&&◌, Bool, Result, Ok, Err, true, false, List, All, sym, ap, ◌∙◌, arith}
+use Rattle.std.proofs.lemmas.{Bool.{and_parts, leb-true, false≢true}, List.Elements.{All-weaker}}
 use Rattle.std.specs.Prelude.{nat_le, IsErrAnd}
 use Rattle.race_records.specs.declared.trace.TheConstants.{MAX_EVENTS}
 use Rattle.race_record.specs.Noting.{HaveNext}
 use Rattle.race_explore.specs.declared.{walk.TheConstants.MAX_RUNS, fault.ExploreFault.ExploreFault}
-use Rattle.race_explore.specs.Walk.{are_explore_limits}
+use Rattle.race_script.specs.Program.{ProgramState}
+use Rattle.race_explore.specs.{declared.explored.Explored.Explored, Walk.{are_explore_limits, IsWalked, IsExplored}}
 
 -- a number comes after each pick
 pub few_next : (n : ℕ) (picks : List ℕ) → n < MAX_RUNS → All (λ p. p ≤ n) picks → HaveNext picks
@@ -24,3 +25,22 @@ pub passed_on : {X : Type 0} {P : Type 0} (r : Result X ExploreFault) (e why : E
     → (◌≡◌ {A = Result Bool ExploreFault} (Err e) (Err why) → P) → r ≡ Err why → P
 passed_on (Ok x) e why so has is = absurd so
 passed_on (Err f) e why so has is = let same : f ≡ why = cc is in has (ap (λ (x : ExploreFault). Err x) (sym so ∙ same))
+
+-- the walk stopped after as many runs as were wanted, of which there is one at least
+pub explored_in_part : {A : Type 0} (program : ProgramState) (limit most : ℕ) (picks : List ℕ) (e : Explored A) → are_explore_limits limit most ≡ true
+    → IsWalked program limit picks e → e.runs ≡ most → e.whole ≡ false → IsExplored program limit most e
+explored_in_part program limit most picks e are walked all part = record {
+  seen = walked.seen;
+  looked = walked.looked;
+  counts = walked.counts;
+  racy = walked.racy;
+  bad = walked.bad;
+  none_twice = walked.none_twice;
+  whole = λ whole. absurd (false≢true (sym part ∙ whole));
+  stopped = λ _. (all, walked.more (omega (arith, all, some)));
+}
+  where
+    some : 1 ≤ most
+    some =
+        let (of_events, of_runs) = and_parts (nat_le 1 limit && nat_le limit MAX_EVENTS) (nat_le 1 most && nat_le most MAX_RUNS) are in
+        leb-true 1 most (and_parts (nat_le 1 most) (nat_le most MAX_RUNS) of_runs).0

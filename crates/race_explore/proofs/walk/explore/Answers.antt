@@ -1,6 +1,6 @@
-use Rattle.std.proofs.Common.{sym, ◌∙◌}
+use Rattle.std.proofs.Common.{sym, ◌∙◌, arith}
 use Rattle.race_explore.specs.declared.fault.ExploreFault.{ExploreFault}
-use Rattle.race_explore.proofs.EndLemmas.{room_for_one, passed_on}
+use Rattle.race_explore.proofs.EndLemmas.{room_for_one, passed_on, explored_in_part}
 use Rattle.race_explore.proofs.walk.explore.Goals as goal
 
 pub look_at_next-requires-clause-few : goal.look_at_next-requires-clause-few
@@ -11,3 +11,11 @@ look_at_next-requires-clause-few g c κs within =
 pub returns-in_err-look_at_next-clause-refused : goal.returns-in_err-look_at_next-clause-refused
 returns-in_err-look_at_next-clause-refused g c =
     passed_on c.from_residual.result c.in_err-look_at_next.field-0.0 ExploreFault.NotARun c.from_residual.ensures.1 c.in_err-look_at_next.ensures.refused
+
+pub returns-clause-explored : goal.returns-clause-explored
+returns-clause-explored g c =
+    let runs = c.loop-run.invariant.runs in
+    let done = c.loop-run-test.false in
+    let end = c.loop-run.auto._run-end in
+    explored_in_part c.args.program.now c.args.limit c.args.most c.loop-run.picks.items c.loop-run.explored
+    (sym c.are_in_limits.ensures ∙ c.if-not-are_in_limits.false) c.loop-run.invariant.walked (omega (arith, runs, done, end)) c.loop-run.invariant.whole

@@ -363,7 +363,17 @@ func (p *Program) Build(run func(*exec.Cmd) error, file string, tests bool) erro
 	cmd.Stdout, cmd.Stderr = os.Stderr, os.Stderr
 	cmd.Env = append(os.Environ(), "GOFLAGS=-trimpath"+tags, "GO111MODULE=off", "GOWORK=off", "GOPATH="+p.copy.Dir)
 	if err := run(cmd); err != nil {
-		return fmt.Errorf("the instrumented copy doesn't build, which is a mistake of gorec: %w", err)
+		return buildError(err)
 	}
 	return p.copy.Sites.Write(file + ".sites")
+}
+
+// buildError says why the instrumented copy wasn't built: a signal ended the build, or else gorec
+// made a mistake, since the program itself builds.
+func buildError(err error) error {
+	var exit *exec.ExitError
+	if errors.As(err, &exit) && exit.ExitCode() == -1 {
+		return fmt.Errorf("building the instrumented copy: %w", err)
+	}
+	return fmt.Errorf("the instrumented copy doesn't build, which is a mistake of gorec: %w", err)
 }

@@ -27,7 +27,7 @@ enum Engine {
     /// Of this text, by so many threads, which judge one event at a time, where a read gives few bytes.
     CheckPieces(&'static [u8], usize),
     /// Of a long text, whose lines so many threads read ahead.
-    CheckRound(usize),
+    CheckAhead(usize),
     Edges,
     /// By so many workers, or without any by picks.
     Run(Option<usize>),
@@ -167,7 +167,9 @@ const CERTIFIED: Ending = (
 
 const EXPLAINED: Ending = (
     status::RACES,
-    Written::Front(b"race on x: write by main at p (event 2), read by w at p (event 3)\nraces: 1\n"),
+    Written::Front(
+        b"race on x: write by main at p (event 2), read by w at p (event 3)\nraces: 1\n",
+    ),
 );
 
 // The write comes first or the read does; then both goroutines wait for ever.
@@ -280,7 +282,7 @@ fn run<R: Threads + Wait + Sync, A: Allocator + Copy + Send + Sync>(
         Engine::CheckPieces(bytes, shards) => {
             run_check_in_pieces(rt, alloc, bytes, &mut sink, shards)
         }
-        Engine::CheckRound(threads) => run_check_ahead(rt, alloc, &mut sink, threads),
+        Engine::CheckAhead(threads) => run_check_ahead(rt, alloc, &mut sink, threads),
         Engine::Edges => run_edges(alloc, &mut trace, &mut sink),
         Engine::Run(workers) => {
             let run = run_options(alloc, workers);
@@ -363,13 +365,12 @@ fn engines(rt: HostRuntime) {
 
 // A thread that reads and one that judges grow at one time, in no order that is always the same: so which growth is refused
 // isn't known, and how often differs.
-static BESIDE: [Row; 6] = [
+static BESIDE: [Row; 5] = [
     Row(Engine::CheckPieces(TRACE, 2), CHECKED),
     Row(Engine::CheckPieces(TRACE, 3), CHECKED),
     Row(Engine::CheckPieces(FAULTY, 1), FAULT),
     Row(Engine::CheckPieces(FAULTY, 2), FAULT),
-    Row(Engine::CheckRound(3), CHECKED_AHEAD),
-    Row(Engine::CheckRound(4), CHECKED_AHEAD),
+    Row(Engine::CheckAhead(3), CHECKED_AHEAD),
 ];
 
 #[test]

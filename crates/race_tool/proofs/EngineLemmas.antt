@@ -6,7 +6,7 @@ use Rattle.race_records.specs.declared.{sink.{Sink.Sink, WriteFault.WriteFault},
 use Rattle.race_records.specs.Devices.{unread, written, source_failures}
 use Rattle.race_text.specs.{declared.cause.TextFault.TextFault, Lines.{Causes, first_fault}, Output.Writes}
 use Rattle.race_text.proofs.FedLemmas.{ended_fault_stays}
-use Rattle.race_tool.specs.{declared.input.ReadFault.ReadFault, Input.{Reads, ReadsBy, ReadsInput, IsReadBy}}
+use Rattle.race_tool.specs.{declared.input.ReadFault.ReadFault, Input.{IsInput, Reads, ReadsBy, ReadsInput, IsReadBy}}
 use Rattle.race_tool.specs.Outcome.{status_of_fault, IsOfAFinding, IsRightFor, Sends, Answers, ReadsAndWrites, ReadsWhere}
 use Rattle.race_tool.{specs.{declared.reply.Reply.Reply, Reply.IfFound}, proofs.InputLemmas.itself}
 use Rattle.race_tool.specs.declared.status.TheConstants as status
@@ -27,6 +27,51 @@ module _ {R V : Type 0} (IsText : V → List ℕ → Type 0) (causes : Causes) (
   pub calmly : source_failures source_now ≡ source_failures source
   calmly = reads.calm (λ e. cc)
 
+-- this was read, and no read failed
+module _ {F R W V : Type 0} (IsText : V → List ℕ → Type 0) (causes : Causes) (IsRight : List ℕ → F → Type 0) (text_of : F → List ℕ) (status_for : F → ℕ)
+    (IsUnrecorded : List ℕ → Type 0) (remaining : R → Option (List ℕ)) (contents : W → Option (List ℕ)) (source source_now : Source R) (sink : Sink W)
+    (text : Result V TextFault) (was : ReadsBy IsText causes (unread remaining source) (unread remaining source_now) text)
+    (calmed : source_failures source_now ≡ source_failures source) where
+  -- a reply was sent that is right for each input that begins so
+  pub answers_sent_of : (reply : F) (sink_now : Sink W) (answer : ℕ)
+      → ((whole : List ℕ) → IsInput was.bytes was.to_end whole → IsReadBy IsText causes whole text → IsRight whole reply)
+      → Sends contents sink sink_now (text_of reply) (status_for reply) answer
+      → Answers causes IsRight text_of status_for IsUnrecorded remaining contents source source_now sink sink_now answer
+  answers_sent_of reply sink_now answer right sends = by sends.result sends.writes sends.status_is
+    where
+      right_for : IsRightFor IsRight was.bytes was.to_end reply
+      right_for whole is_input = right whole is_input (was.is_so whole is_input)
+
+      by : (r : Result ⊤ WriteFault) → Writes contents r sink sink_now (text_of reply)
+          → MatchResult r (λ _. (answer ≡ status_for reply) × IsOfAFinding (status_for reply)) (λ _. answer ≡ status.DEVICE)
+          → Answers causes IsRight text_of status_for IsUnrecorded remaining contents source source_now sink sink_now answer
+      by (Ok u) wrote (same, own) = record {
+        told = λ granted served recorded. record {
+          bytes = was.bytes;
+          to_end = was.to_end;
+          read = was.read;
+          reported = record { finding = reply; right = right_for; printed = wrote.ok; status_is = same };
+        };
+        refused = λ e. absurd (own.granted (sym same ∙ e));
+        mismatch = λ e. absurd (own.recorded (sym same ∙ e));
+        device = λ e. absurd (own.served (sym same ∙ e));
+        calm = λ served. (calmed, wrote.calm);
+      }
+      by (Err fault) wrote same = record {
+        told = λ granted served recorded. absurd (served same);
+        refused = λ e. absurd (omega (arith, same, e));
+        mismatch = λ e. absurd (omega (arith, same, e));
+        device = λ e.
+            inr (inr (record {
+              bytes = was.bytes;
+              to_end = was.to_end;
+              read = was.read;
+              calm = calmed;
+              front = record { finding = reply; right = right_for; sent = fault.sent; cut_off = wrote.sent; failed = wrote.failed };
+            }));
+        calm = λ served. absurd (served same);
+      }
+
 module _ {F R W V : Type 0} (IsText : V → List ℕ → Type 0) (causes : Causes) (IsRight : List ℕ → F → Type 0) (text_of : F → List ℕ) (status_for : F → ℕ)
     (IsUnrecorded : List ℕ → Type 0) (remaining : R → Option (List ℕ)) (contents : W → Option (List ℕ)) (source source_now : Source R) (sink : Sink W)
     (given : Result (Result V TextFault) ReadFault) (reads : ReadsInput IsText causes remaining source source_now given) where
@@ -42,40 +87,9 @@ module _ {F R W V : Type 0} (IsText : V → List ℕ → Type 0) (causes : Cause
     pub answers_sent : (reply : F) (sink_now : Sink W) (answer : ℕ) → ((bytes : List ℕ) → IsReadBy IsText causes bytes text → IsRight bytes reply)
         → Sends contents sink sink_now (text_of reply) (status_for reply) answer
         → Answers causes IsRight text_of status_for IsUnrecorded remaining contents source source_now sink sink_now answer
-    answers_sent reply sink_now answer right sends = by sends.result sends.writes sends.status_is
-      where
-        right_for : IsRightFor IsRight read_text.bytes read_text.to_end reply
-        right_for whole is_input = right whole (read_text.is_so whole is_input)
-
-        by : (r : Result ⊤ WriteFault) → Writes contents r sink sink_now (text_of reply)
-            → MatchResult r (λ _. (answer ≡ status_for reply) × IsOfAFinding (status_for reply)) (λ _. answer ≡ status.DEVICE)
-            → Answers causes IsRight text_of status_for IsUnrecorded remaining contents source source_now sink sink_now answer
-        by (Ok u) wrote (same, own) = record {
-          told = λ granted served recorded. record {
-            bytes = read_text.bytes;
-            to_end = read_text.to_end;
-            read = read_text.read;
-            reported = record { finding = reply; right = right_for; printed = wrote.ok; status_is = same };
-          };
-          refused = λ e. absurd (own.granted (sym same ∙ e));
-          mismatch = λ e. absurd (own.recorded (sym same ∙ e));
-          device = λ e. absurd (own.served (sym same ∙ e));
-          calm = λ served. (read_calmly, wrote.calm);
-        }
-        by (Err fault) wrote same = record {
-          told = λ granted served recorded. absurd (served same);
-          refused = λ e. absurd (omega (arith, same, e));
-          mismatch = λ e. absurd (omega (arith, same, e));
-          device = λ e.
-              inr (inr (record {
-                bytes = read_text.bytes;
-                to_end = read_text.to_end;
-                read = read_text.read;
-                calm = read_calmly;
-                front = record { finding = reply; right = right_for; sent = fault.sent; cut_off = wrote.sent; failed = wrote.failed };
-              }));
-          calm = λ served. absurd (served same);
-        }
+    answers_sent reply sink_now answer right sends =
+        answers_sent_of IsText causes IsRight text_of status_for IsUnrecorded remaining contents source source_now sink text read_text read_calmly
+        reply sink_now answer (λ whole is_input so. right whole so) sends
 
   -- a text was read to its end, and there is no reply
   module _ (whole : V) (is : given ≡ Ok (Ok whole)) where

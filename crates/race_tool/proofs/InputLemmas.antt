@@ -7,15 +7,15 @@ use Rattle.race_records.specs.Devices.{more_by, one_more}
 use Rattle.race_text.specs.{declared.cause.{TextCause.TextCause, TextFault.TextFault}, Lines.{Causes, first_fault}}
 use Rattle.race_text.{specs.Fed.{ended_after, ended_fault}, proofs.FedLemmas.ended_fault_stays}
 use Rattle.race_tool.specs.{declared.input.ReadFault.ReadFault, Input.{HasRead, HasReadAll, IsInput, IsReadBy, ReadsBy}}
-use Rattle.race_tool.specs.Input.{ReadsFine, FeedsMore}
+use Rattle.race_tool.specs.Input.{ReadsFine, ReadsByKept, FeedsMore}
 
 -- where nothing was fed no line is at fault
-nothing_ended : (causes : Causes) → ended_fault causes [] ≡ None
+pub nothing_ended : (causes : Causes) → ended_fault causes [] ≡ None
 unfolding ended_fault ended_after
 nothing_ended causes = refl
 
 -- before the first one
-pub fed_none : (causes : Causes) (start : Option (List ℕ)) (StandsFor : List ℕ → Type 0) → StandsFor [] → HasRead causes start start StandsFor 0
+unfoldable pub fed_none : (causes : Causes) (start : Option (List ℕ)) (StandsFor : List ℕ → Type 0) → StandsFor [] → HasRead causes start start StandsFor 0
 fed_none causes start StandsFor stands = record {
   bytes = [];
   consumed = Consumes-nil start;
@@ -27,6 +27,12 @@ fed_none causes start StandsFor stands = record {
 -- all was read, and the reader stands for it
 module _ (causes : Causes) (start now : Option (List ℕ)) (Stands : List ℕ → Type 0) (r : HasReadAll causes start now Stands)
     {V : Type 0} (IsText : V → List ℕ → Type 0) where
+  -- the reader of lines answers so
+  abbrev ReadsAs : Result V TextFault → Type 0
+  ReadsAs text =
+      IfOk text (λ value. (bytes : List ℕ) → Stands bytes → IsText value bytes)
+      × IfErr text (λ told. (bytes : List ℕ) → Stands bytes → first_fault causes bytes ≡ Some told)
+
   pub end_read : (text : Result V TextFault)
       → IfOk text (λ value. (bytes : List ℕ) → Stands bytes → IsText value bytes)
       → IfErr text (λ told. (bytes : List ℕ) → Stands bytes → first_fault causes bytes ≡ Some told)
@@ -48,21 +54,41 @@ module _ (causes : Causes) (start now : Option (List ℕ)) (Stands : List ℕ �
       all (Ok value) = refl
       all (Err f) = tt
 
-  -- what is answered then, but for want of memory
-  pub all_answered : (told : Result V TextFault) {E : Type 0} (answer : Result (Result V TextFault) E)
+  -- what is answered then, but for want of memory, is what holds of what was read
+  pub answered : (P : Result V TextFault → Type 0) → ((text : Result V TextFault) → ReadsAs text → P text)
+      → (told : Result V TextFault) {E : Type 0} (answer : Result (Result V TextFault) E)
       → IfOk told (λ value. (bytes : List ℕ) → Stands bytes → IsText value bytes)
       → IfErr told (λ f. (bytes : List ℕ) → Stands bytes → f.cause ≢ TextCause.OutOfMemory → first_fault causes bytes ≡ Some f)
       → IfOk answer (λ text. text ≡ told) → IfOk answer (λ text. IfErr text (λ f. f.cause ≢ TextCause.OutOfMemory))
-      → IfOk answer (λ text. ReadsBy IsText causes start now text)
-  all_answered told (Err e) read fault same other = tt
-  all_answered told (Ok text) read fault same other =
-      subst (λ (t : Result V TextFault). ReadsBy IsText causes start now t) (sym same)
-      (end_read told read (faulty told fault (subst (λ (t : Result V TextFault). IfErr t (λ f. f.cause ≢ TextCause.OutOfMemory)) same other)))
+      → IfOk answer P
+  answered P so told (Err e) read fault same other = tt
+  answered P so told (Ok text) read fault same other =
+      subst P (sym same)
+      (so told (read, faulty told fault (subst (λ (t : Result V TextFault). IfErr t (λ f. f.cause ≢ TextCause.OutOfMemory)) same other)))
     where
       faulty : (t : Result V TextFault) → IfErr t (λ f. (bytes : List ℕ) → Stands bytes → f.cause ≢ TextCause.OutOfMemory → first_fault causes bytes ≡ Some f)
           → IfErr t (λ f. f.cause ≢ TextCause.OutOfMemory) → IfErr t (λ f. (bytes : List ℕ) → Stands bytes → first_fault causes bytes ≡ Some f)
       faulty (Ok value) told other = tt
       faulty (Err f) told other = λ bytes S. told bytes S other
+
+  pub all_answered : (told : Result V TextFault) {E : Type 0} (answer : Result (Result V TextFault) E)
+      → IfOk told (λ value. (bytes : List ℕ) → Stands bytes → IsText value bytes)
+      → IfErr told (λ f. (bytes : List ℕ) → Stands bytes → f.cause ≢ TextCause.OutOfMemory → first_fault causes bytes ≡ Some f)
+      → IfOk answer (λ text. text ≡ told) → IfOk answer (λ text. IfErr text (λ f. f.cause ≢ TextCause.OutOfMemory))
+      → IfOk answer (λ text. ReadsBy IsText causes start now text)
+  all_answered told answer =
+      answered (λ text. ReadsBy IsText causes start now text) (λ text (read, fault). end_read text read fault) told answer
+
+  -- and it is kept
+  pub all_kept : {K : Type 0} (HasKept : K → List ℕ → Type 0) (kept : K) → HasKept kept r.read.bytes
+      → (told : Result V TextFault) {E : Type 0} (answer : Result (Result V TextFault) E)
+      → IfOk told (λ value. (bytes : List ℕ) → Stands bytes → IsText value bytes)
+      → IfErr told (λ f. (bytes : List ℕ) → Stands bytes → f.cause ≢ TextCause.OutOfMemory → first_fault causes bytes ≡ Some f)
+      → IfOk answer (λ text. text ≡ told) → IfOk answer (λ text. IfErr text (λ f. f.cause ≢ TextCause.OutOfMemory))
+      → IfOk answer (ReadsByKept HasKept kept IsText causes start now)
+  unfolding end_read
+  all_kept HasKept kept keeps told answer =
+      answered (ReadsByKept HasKept kept IsText causes start now) (λ text (read, fault). (end_read text read fault, keeps)) told answer
 
 -- what was read, by another reader
 pub read_as : (causes : Causes) (start now : Option (List ℕ)) (Old New : List ℕ → Type 0) (turns : ℕ)
@@ -77,7 +103,7 @@ read_as causes start now Old New turns on read = record {
 
 module _ (causes : Causes) (start before after : Option (List ℕ)) (Old New : List ℕ → Type 0) (turns : ℕ) (fed : HasRead causes start before Old turns) where
   -- one more block, in which there were bytes
-  pub fed_more : (r : FeedsMore causes before after Old New (Ok true)) → HasRead causes start after New (turns + 1)
+  unfoldable pub fed_more : (r : FeedsMore causes before after Old New (Ok true)) → HasRead causes start after New (turns + 1)
   fed_more r = record {
     bytes = fed.bytes ++ r.taken;
     consumed = Consumes-trans start before after fed.bytes r.taken fed.consumed r.consumed;
@@ -87,7 +113,7 @@ module _ (causes : Causes) (start before after : Option (List ℕ)) (Old New : L
   }
 
   -- or none, at the end
-  pub fed_all : FeedsMore causes before after Old New (Ok false) → HasReadAll causes start after New
+  unfoldable pub fed_all : FeedsMore causes before after Old New (Ok false) → HasReadAll causes start after New
   fed_all r = record {
     turns = turns;
     read = record {
@@ -106,7 +132,7 @@ module _ (causes : Causes) (start before after : Option (List ℕ)) (Old New : L
 
   module _ {V : Type 0} (IsText : V → List ℕ → Type 0) where
     -- a faulty line was told
-    pub fault_read : (told : TextFault) → FeedsMore causes before after Old New (Err told) → ReadsBy IsText causes start after (Err told)
+    unfoldable pub fault_read : (told : TextFault) → FeedsMore causes before after Old New (Err told) → ReadsBy IsText causes start after (Err told)
     fault_read told r =
         let faulty : ended_fault causes (fed.bytes ++ r.taken) ≡ Some told = r.told fed.bytes fed.stands in
         record {

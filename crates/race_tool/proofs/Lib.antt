@@ -1,5 +1,6 @@
 pub mod InputLemmas
 pub mod InputEnds
+pub mod KeptLines
 pub mod EngineLemmas
 pub mod StatusLemmas
 pub mod OneReport

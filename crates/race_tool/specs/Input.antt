@@ -51,6 +51,11 @@ module _ {V : Type 0} (IsText : V → List ℕ → Type 0) (causes : Causes) whe
     pub is_so : (whole : List ℕ) → IsInput bytes to_end whole → IsReadBy whole text
     pub all : OnOk text (IsTrue to_end)
 
+-- and what was read is kept
+abbrev pub ReadsByKept : {K V : Type 0} → (K → List ℕ → Type 0) → K → (V → List ℕ → Type 0) → Causes → Option (List ℕ) → Option (List ℕ)
+    → Result V TextFault → Type 0
+ReadsByKept HasKept kept IsText causes before after text = (was : ReadsBy IsText causes before after text) × HasKept kept was.bytes
+
 -- the bytes are the text of this trace, or else this is their first fault
 abbrev pub IsReadAs : List ℕ → Result TraceState TextFault → Type 0
 IsReadAs bytes text = IsReadBy IsTextOf trace_causes bytes text
@@ -84,6 +89,12 @@ pub record ReadsInput {R V : Type 0} (IsText : V → List ℕ → Type 0) (cause
   pub fine : result ≡ Err ReadFault.Failed → ReadsFine causes (unread remaining source) (unread remaining source_now)
   pub endless : result ≡ Err ReadFault.Endless → ReadsMany causes remaining source source_now
 
+-- and what was read is kept
+pub record ReadsAndKeeps {K R V : Type 0} (HasKept : K → List ℕ → Type 0) (kept : K) (IsText : V → List ℕ → Type 0) (causes : Causes)
+    (remaining : R → Option (List ℕ)) (source source_now : Source R) (result : Result (Result V TextFault) ReadFault) : Type 0 where
+  pub reads : ReadsInput IsText causes remaining source source_now result
+  pub keeps : IfOk result (ReadsByKept HasKept kept IsText causes (unread remaining source) (unread remaining source_now))
+
 -- so many blocks were read and fed to a reader, which stands for them, and no line that a newline ends is at fault
 pub record HasRead (causes : Causes) (start now : Option (List ℕ)) (StandsFor : List ℕ → Type 0) (turns : ℕ) : Type 0 where
   pub bytes : List ℕ
@@ -112,3 +123,9 @@ pub record FeedsMore (causes : Causes) (before after : Option (List ℕ)) (Stood
   pub consumed : Consumes before after taken
   pub goes_on : (fed : List ℕ) → StoodFor fed → StandsFor (fed ++ taken)
   pub told : IsToldOf causes StoodFor after taken answer
+
+-- and its bytes are kept behind those that were
+pub record FeedsAndKeeps {K : Type 0} (HasKept : K → List ℕ → Type 0) (kept kept_now : K) (causes : Causes) (before after : Option (List ℕ))
+    (StoodFor StandsFor : List ℕ → Type 0) (answer : Result Bool TextFault) : Type 0 where
+  pub feeds : FeedsMore causes before after StoodFor StandsFor answer
+  pub keeps : (front : List ℕ) → HasKept kept front → HasKept kept_now (front ++ feeds.taken)

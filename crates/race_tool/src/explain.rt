@@ -4,7 +4,7 @@ ghost use Rattle.race_tool.specs.Input.{IsReadAs};
 ghost use Rattle.race_tool.specs.Explain as spec;
 
 use crate::engine::status_of_fault;
-use crate::kept::read_kept;
+use crate::input::read_kept;
 use crate::reply::{Reply, Shown};
 use crate::status;
 use race_draw::write_text;
@@ -49,7 +49,8 @@ fn explain<A: Allocator + Copy>(
     bytes: Vec<u8, A>,
     text: Result<Trace<A>, TextFault>,
 ) -> Result<Explained<A>, AllocError>
-    ensures { IfOk result (λ explained. (whole : List ℕ) → IsReadAs whole text → spec.IsExplaining whole (spec.found explained)) }
+    ensures { IfOk result (λ explained. (whole : List ℕ) → IsReadAs whole text → spec.IsShownAlike bytes.items whole text
+        → spec.IsExplaining whole (spec.found explained)) }
 {
     match text {
         Ok(trace) => {

@@ -2,8 +2,9 @@
 ghost use Rattle.std.specs.{Prelude.{◌≡◌, ◌≢◌, [], length, vec_len, None, IfOk, IfErr, OnOk}, Io.KnownBytes.Keeps};
 ghost use Rattle.race_records.specs.Devices.{unread, source_reads, source_failures, one_more};
 ghost use Rattle.race_text.specs.{declared.{cause.{TextCause.{TextCause as Cause}}}, Fed.{IsFed, IsReady}};
-ghost use Rattle.race_tool.specs.Input.{ReadsInput, FeedsMore, IsRoom};
+ghost use Rattle.race_tool.specs.Input.{ReadsInput, ReadsAndKeeps, FeedsAndKeeps, IsRoom};
 
+use crate::keeper::{Forgets, Keeper};
 use race_records::Source;
 use race_text::{Fed, Grammar, TextCause, TextFault};
 use std::alloc::{AllocError, Allocator};
@@ -46,12 +47,26 @@ pub(crate) fn read_text<R: Read, G: Grammar, A: Allocator + Copy>(
     requires { G.stands_for G.at_start grammar [] }
     ensures { ReadsInput (G.is_text_of G.at_start) G.causes R.remaining source.old source.new result }
 {
+    read_kept(alloc, source, grammar, &mut Forgets)
+}
+
+/// The same, where what was read is kept.
+pub(crate) fn read_kept<R: Read, G: Grammar, K: Keeper, A: Allocator + Copy>(
+    alloc: A,
+    source: &mut Source<R>,
+    grammar: G,
+    keeper: &mut K,
+) -> Result<Result<G::Whole, TextFault>, ReadFault>
+    requires start { G.stands_for G.at_start grammar [] }
+    requires none { K.has_kept keeper.old [] }
+    ensures { ReadsAndKeeps K.has_kept keeper.new (G.is_text_of G.at_start) G.causes R.remaining source.old source.new result }
+{
     let Ok(mut block) = blank_block(alloc, SMALL_BLOCK) else {
         return Err(ReadFault::OutOfMemory);
     };
     let mut reader = Fed::new(alloc, grammar);
     for _ in 0..MAX_TURNS {
-        match feed_block(source, block.as_mut_slice(), &mut reader)? {
+        match feed_block(source, block.as_mut_slice(), &mut reader, keeper)? {
             Ok(true) => {}
             Ok(false) => return set_memory_apart(reader.finish()),
             Err(fault) => return Ok(Err(fault)),
@@ -66,15 +81,17 @@ pub(crate) fn blank_block<A: Allocator>(alloc: A, len: usize) -> Result<Vec<u8, 
     Vec::from_elem(alloc, 0, len)
 }
 
-// Reads once, and feeds what was read. Tells whether there were bytes, or the first faulty line.
-pub(crate) fn feed_block<R: Read, G: Grammar, A: Allocator + Copy>(
+// Reads once, keeps what was read, and feeds it. Tells whether there were bytes, or the first faulty line.
+fn feed_block<R: Read, G: Grammar, K: Keeper, A: Allocator + Copy>(
     source: &mut Source<R>,
     block: &mut [u8],
     reader: &mut Fed<G, A>,
+    keeper: &mut K,
 ) -> Result<Result<bool, TextFault>, ReadFault>
     requires block { IsRoom (length block.old) }
     requires ready { (k : G.Known) × IsReady (G.stands_for k) reader.old }
-    ensures ok { IfOk result (λ answer. (k : G.Known) → FeedsMore G.causes (unread R.remaining source.old) (unread R.remaining source.new)
+    ensures ok { IfOk result (λ answer. (k : G.Known) → FeedsAndKeeps K.has_kept keeper.old keeper.new G.causes
+        (unread R.remaining source.old) (unread R.remaining source.new)
         (IsFed G.causes (G.stands_for k) reader.old) (IsFed G.causes (G.stands_for k) reader.new) answer) }
     ensures calm { result ≢ Err ReadFault.Failed
         → source_failures source.new ≡ source_failures source.old }
@@ -88,11 +105,16 @@ pub(crate) fn feed_block<R: Read, G: Grammar, A: Allocator + Copy>(
     ensures fine { IfOk result (λ answer. OnOk answer (reader.new.fault ≡ None)) }
 {
     match source.read(block) {
-        Ok(taken) => match set_memory_apart(reader.feed(&block[..taken])) {
-            Ok(Ok(())) => Ok(Ok(taken > 0)),
-            Ok(Err(fault)) => Ok(Err(fault)),
-            Err(fault) => Err(fault),
-        },
+        Ok(taken) => {
+            let Ok(()) = keeper.keep(&block[..taken]) else {
+                return Err(ReadFault::OutOfMemory);
+            };
+            match set_memory_apart(reader.feed(&block[..taken])) {
+                Ok(Ok(())) => Ok(Ok(taken > 0)),
+                Ok(Err(fault)) => Ok(Err(fault)),
+                Err(fault) => Err(fault),
+            }
+        }
         Err(_) => Err(ReadFault::Failed),
     }
 }

@@ -14,7 +14,7 @@ mod handed;
 mod input;
 mod intake;
 mod judged;
-mod kept;
+mod keeper;
 pub mod laws;
 mod predict;
 mod predict_printing;

@@ -1,20 +1,24 @@
+use Rattle.std.proofs.Common.{List, Option, Result, subst}
+use Rattle.std.proofs.lemmas.Result.{IfOk-at_ok}
 use Rattle.race_tool.proofs.ExplainLemmas.{explained_sent, explained_none, explained_unread}
 use Rattle.race_tool.proofs.explain.run_explain.Goals as goal
 
 pub returns-in-Ok-explain : goal.returns-in-Ok-explain
-returns-in-Ok-explain g c = record {
-  explains = explained_sent _ g.R.Read.remaining g.W.Write.contents c.args.source.now c.read_kept.new.source c.args.sink.now c.read_kept.result c.read_kept.ensures
-      c.in-Ok.text c.in-Ok.is c.in-Ok-explain.explained c.send.new.sink c.send.result c.in-Ok-explain.ensures c.send.ensures;
-}
+returns-in-Ok-explain g c =
+    let both = IfOk-at_ok _ c.in-Ok.is c.read_kept.ensures.keeps in
+    record {
+      explains = explained_sent _ g.R.Read.remaining g.W.Write.contents c.args.source.now c.read_kept.new.source c.args.sink.now c.read_kept.result
+          c.read_kept.ensures.reads c.in-Ok.text c.in-Ok.is both.0 c.in-Ok-explain.explained c.send.new.sink c.send.result ? c.send.ensures;
+    }
 
 pub returns-in-Err-explain : goal.returns-in-Err-explain
 returns-in-Err-explain g c = record {
-  explains = explained_none _ g.R.Read.remaining g.W.Write.contents c.args.source.now c.read_kept.new.source c.args.sink.now c.read_kept.result c.read_kept.ensures
-      c.in-Ok.text c.in-Ok.is;
+  explains = explained_none _ g.R.Read.remaining g.W.Write.contents c.args.source.now c.read_kept.new.source c.args.sink.now c.read_kept.result
+      c.read_kept.ensures.reads c.in-Ok.text c.in-Ok.is;
 }
 
 pub returns-in-Err : goal.returns-in-Err
 returns-in-Err g c = record {
-  explains = explained_unread _ g.R.Read.remaining g.W.Write.contents c.args.source.now c.read_kept.new.source c.args.sink.now c.read_kept.result c.read_kept.ensures
-      c.in-Err.fault c.in-Err.is c.status_of_fault.result c.status_of_fault.ensures;
+  explains = explained_unread _ g.R.Read.remaining g.W.Write.contents c.args.source.now c.read_kept.new.source c.args.sink.now c.read_kept.result
+      c.read_kept.ensures.reads c.in-Err.fault c.in-Err.is c.status_of_fault.result c.status_of_fault.ensures;
 }

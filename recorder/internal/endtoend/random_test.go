@@ -23,6 +23,8 @@ var (
 	randomSeed     = flag.Int64("randomseed", 1, "the first of them")
 )
 
+const together = 100 // random programs that are built as one
+
 // TestRandomPrograms records random programs, with what one goroutine alone does and without
 // it. The variables that race are those that race by construction, and no trace is illegal.
 func TestRandomPrograms(t *testing.T) {
@@ -30,57 +32,85 @@ func TestRandomPrograms(t *testing.T) {
 	if *randomPrograms == 0 {
 		t.Skip("no -random")
 	}
-	for n := int64(0); n < int64(*randomPrograms); n++ {
-		dir := t.TempDir()
-		source, racy := randomProgram(*randomSeed + n)
-		files := map[string]string{"go.mod": "module random\n\ngo 1.18\n", "main.go": source}
-		for name, text := range files {
-			if err := os.WriteFile(filepath.Join(dir, name), []byte(text), 0o644); err != nil {
-				t.Fatal(err)
-			}
+	last := *randomSeed + int64(*randomPrograms)
+	for first := *randomSeed; first < last; first += together {
+		end := first + together
+		if end > last {
+			end = last
 		}
-		program := filepath.Join(dir, "program")
-		build := exec.Command(gorec, "build", "-o", program, ".")
-		build.Dir = dir
-		if out, err := build.CombinedOutput(); err != nil {
-			t.Fatalf("seed %d: %v\n%s\n%s", *randomSeed+n, err, out, source)
-		}
-		traces := map[string]string{}
-		for _, all := range []string{"0", "1"} {
-			os.Setenv("GOREC_ALL", all)
-			traces[all] = record(t, program, fmt.Sprint(n+1), "0")
-			traces[all] = rename(t, traces[all], all)
-		}
-		os.Unsetenv("GOREC_ALL")
-		for all, report := range judgeAll(t, traces) {
-			if got := racyOnes(report); got != racy {
-				t.Errorf("seed %d, all %s: races on %s, not on %s\n%s%s", *randomSeed+n, all, got, racy, report, source)
-			}
-		}
-		segments := recordParts(t, program, fmt.Sprint(n+1), 150+int(n*37%300), 25+int(n*11%200))
-		for segment, report := range judgeAll(t, segments) {
-			for _, got := range strings.Fields(racyOnes(report)) {
-				if !strings.Contains(" "+racy+" ", " "+got+" ") {
-					t.Errorf("seed %d, segment %s: a race on %s, not on %s\n%s%s", *randomSeed+n, segment, got, racy, report, source)
-				}
-			}
-		}
-		t.Logf("seed %d: %d segments", *randomSeed+n, len(segments))
-		os.RemoveAll(dir)
+		recordRandom(t, first, end)
 	}
+}
+
+// recordRandom builds the random programs from a first one to before an end as one package, and
+// records each.
+func recordRandom(t *testing.T, first, end int64) {
+	t.Helper()
+	dir := t.TempDir()
+	defer os.RemoveAll(dir)
+	var programs []*randomProgram
+	var cases strings.Builder
+	for seed := first; seed < end; seed++ {
+		p := newRandomProgram(seed)
+		programs = append(programs, p)
+		writeFile(t, filepath.Join(dir, fmt.Sprintf("program%d.go", seed)), p.source)
+		fmt.Fprintf(&cases, "case \"%d\":\nprogram%d()\n", seed, seed)
+	}
+	writeFile(t, filepath.Join(dir, "go.mod"), "module random\n\ngo 1.18\n")
+	writeFile(t, filepath.Join(dir, "main.go"), randomMain+cases.String()+"}\n}\n")
+	all := filepath.Join(dir, "program")
+	build(t, dir, ".", all)
+	for _, p := range programs {
+		if !t.Run(fmt.Sprint("seed", p.seed), func(t *testing.T) { p.check(t, all) }) {
+			t.Logf("seed %d:\n%s", p.seed, p.source)
+		}
+	}
+}
+
+func writeFile(t *testing.T, path, text string) {
+	t.Helper()
+	if err := os.WriteFile(path, []byte(text), 0o644); err != nil {
+		t.Fatal(err)
+	}
+}
+
+// check records a program, which is one of all that were built as one, whole and in parts.
+func (p *randomProgram) check(t *testing.T, all string) {
+	t.Helper()
+	seed := fmt.Sprint(p.seed)
+	chosen := "PROGRAM=" + seed
+	traces := map[string]string{}
+	for _, every := range []string{"0", "1"} {
+		log := runRecorded(t, all, seed, "0", chosen, "GOREC_ALL="+every)
+		traces[every] = rename(t, writeTrace(t, log, all), every)
+		os.Remove(log)
+	}
+	for every, report := range judgeAll(t, traces) {
+		if got := racyOnes(report); got != p.racy {
+			t.Errorf("all %s: races on %s, not on %s\n%s", every, got, p.racy, report)
+		}
+	}
+	segments := recordParts(t, all, all+".parts."+seed, 150+int(p.seed*37%300), 25+int(p.seed*11%200), chosen, "GOREC_SEED="+seed)
+	for segment, report := range judgeAll(t, segments) {
+		for _, got := range strings.Fields(racyOnes(report)) {
+			if !strings.Contains(" "+p.racy+" ", " "+got+" ") {
+				t.Errorf("segment %s: a race on %s, not on %s\n%s", segment, got, p.racy, report)
+			}
+		}
+	}
+	t.Logf("%d segments", len(segments))
 }
 
 // recordParts runs a program whose log has short parts, and writes their traces in short
 // segments. Races between segments aren't told, but no race is told that is none.
-func recordParts(t *testing.T, program, seed string, part, events int) map[string]string {
+func recordParts(t *testing.T, program, log string, part, events int, env ...string) map[string]string {
 	t.Helper()
 	table, err := sites.Read(program + ".sites")
 	if err != nil {
 		t.Fatal(err)
 	}
-	log := program + ".parts"
 	cmd := exec.Command(program)
-	cmd.Env = append(os.Environ(), "GOREC_LOG="+log, "GOREC_SEED="+seed, fmt.Sprintf("GOREC_PART=%d", part))
+	cmd.Env = append(append(os.Environ(), "GOREC_LOG="+log, fmt.Sprintf("GOREC_PART=%d", part)), env...)
 	var output bytes.Buffer
 	cmd.Stdout, cmd.Stderr = &output, &output
 	if err := cmd.Start(); err != nil {
@@ -361,26 +391,27 @@ var racing = []func(*maker){
 	},
 }
 
-// randomProgram is a program, and the numbers of its gadgets that race.
-func randomProgram(seed int64) (source, racy string) {
-	m := &maker{Rand: rand.New(rand.NewSource(seed))}
-	var names []string
-	var calls, all strings.Builder
-	all.WriteString(`package main
+// A randomProgram is a function in a file of package main.
+type randomProgram struct {
+	seed   int64
+	source string
+	racy   string // the numbers of its gadgets that race
+}
+
+const (
+	gadgets = 12 // of each program
+
+	randomMain = `package main
 
 import (
 	"fmt"
-	"runtime"
+	"os"
 	"sync"
-	"sync/atomic"
-	"time"
 )
 
 var (
 	common sync.RWMutex
 	other  int64
-	_      = time.Microsecond
-	_      = runtime.Gosched
 )
 
 func use[T any](T) {}
@@ -388,9 +419,35 @@ func use[T any](T) {}
 func help(f func()) { f() }
 
 func name(n int) string { return fmt.Sprint("n", n) }
-`)
-	for m.n = 0; m.n < 12; m.n++ {
+
+func main() {
+switch os.Getenv("PROGRAM") {
+`
+
+	randomHead = `package main
+
+import (
+	"runtime"
+	"sync"
+	"sync/atomic"
+	"time"
+)
+
+var (
+	_ = time.Microsecond
+	_ = runtime.Gosched
+)
+`
+)
+
+func newRandomProgram(seed int64) *randomProgram {
+	m := &maker{Rand: rand.New(rand.NewSource(seed))}
+	var racy []string
+	var calls, all strings.Builder
+	all.WriteString(randomHead)
+	for i := 0; i < gadgets; i++ {
 		m.Reset()
+		m.n = int(seed)*gadgets + i
 		m.form = variableForms[m.Intn(len(variableForms))]
 		m.write("%s\nfunc gadget%d(wg *sync.WaitGroup) {\n%s", m.number(m.form.top), m.n, m.number(m.form.local))
 		if m.form.local != "" {
@@ -398,7 +455,7 @@ func name(n int) string { return fmt.Sprint("n", n) }
 		}
 		if m.Intn(2) == 0 {
 			racing[m.Intn(len(racing))](m)
-			names = append(names, fmt.Sprint(m.n))
+			racy = append(racy, fmt.Sprint(m.n))
 		} else {
 			clean[m.Intn(len(clean))](m)
 		}
@@ -406,7 +463,7 @@ func name(n int) string { return fmt.Sprint("n", n) }
 		all.WriteString(m.String())
 		fmt.Fprintf(&calls, "gadget%d(&wg)\n", m.n)
 	}
-	sort.Strings(names)
-	all.WriteString("\nfunc main() {\nvar wg sync.WaitGroup\n" + calls.String() + "atomic.AddInt64(&other, 1)\nwg.Wait()\n}\n")
-	return all.String(), strings.Join(names, " ")
+	sort.Strings(racy)
+	fmt.Fprintf(&all, "\nfunc program%d() {\nvar wg sync.WaitGroup\n%satomic.AddInt64(&other, 1)\nwg.Wait()\n}\n", seed, calls.String())
+	return &randomProgram{seed, all.String(), strings.Join(racy, " ")}
 }

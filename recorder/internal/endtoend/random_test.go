@@ -23,7 +23,11 @@ var (
 	randomSeed     = flag.Int64("randomseed", 1, "the first of them")
 )
 
-const together = 100 // random programs that are built as one
+const (
+	gadgets  = 12  // of a program
+	together = 500 // programs that are built as one
+	built    = 600 // gadgets at most that these are made of
+)
 
 // TestRandomPrograms records random programs, with what one goroutine alone does and without
 // it. The variables that race are those that race by construction, and no trace is illegal.
@@ -42,27 +46,27 @@ func TestRandomPrograms(t *testing.T) {
 	}
 }
 
-// recordRandom builds the random programs from a first one to before an end as one package, and
-// records each.
+// recordRandom builds random gadgets as one program, which runs those that it is told. Each seed
+// from a first one to before an end picks some.
 func recordRandom(t *testing.T, first, end int64) {
 	t.Helper()
+	all := makeGadgets(first, int(end-first)*gadgets)
 	dir := t.TempDir()
 	defer os.RemoveAll(dir)
-	var programs []*randomProgram
-	var cases strings.Builder
-	for seed := first; seed < end; seed++ {
-		p := newRandomProgram(seed)
-		programs = append(programs, p)
-		writeFile(t, filepath.Join(dir, fmt.Sprintf("program%d.go", seed)), p.source)
-		fmt.Fprintf(&cases, "case \"%d\":\nprogram%d()\n", seed, seed)
+	sources, cases := randomHead, randomMain
+	for _, g := range all {
+		sources += g.source
+		cases += fmt.Sprintf("case \"%d\":\ngadget%d(&wg)\n", g.n, g.n)
 	}
 	writeFile(t, filepath.Join(dir, "go.mod"), "module random\n\ngo 1.18\n")
-	writeFile(t, filepath.Join(dir, "main.go"), randomMain+cases.String()+"}\n}\n")
-	all := filepath.Join(dir, "program")
-	build(t, dir, ".", all)
-	for _, p := range programs {
-		if !t.Run(fmt.Sprint("seed", p.seed), func(t *testing.T) { p.check(t, all) }) {
-			t.Logf("seed %d:\n%s", p.seed, p.source)
+	writeFile(t, filepath.Join(dir, "gadgets.go"), sources)
+	writeFile(t, filepath.Join(dir, "main.go"), cases+"}\n}\natomic.AddInt64(&other, 1)\nwg.Wait()\n}\n")
+	program := filepath.Join(dir, "program")
+	build(t, dir, ".", program)
+	for seed := first; seed < end; seed++ {
+		p := pickProgram(seed, all)
+		if !t.Run(fmt.Sprint("seed", seed), func(t *testing.T) { p.check(t, program) }) {
+			t.Logf("seed %d:\n%s", seed, p.source)
 		}
 	}
 }
@@ -74,15 +78,14 @@ func writeFile(t *testing.T, path, text string) {
 	}
 }
 
-// check records a program, which is one of all that were built as one, whole and in parts.
-func (p *randomProgram) check(t *testing.T, all string) {
+// check records the gadgets of a program, whole and in parts.
+func (p *randomProgram) check(t *testing.T, program string) {
 	t.Helper()
-	seed := fmt.Sprint(p.seed)
-	chosen := "PROGRAM=" + seed
+	picked, seed := "GADGETS="+p.picked, fmt.Sprint(p.seed)
 	traces := map[string]string{}
 	for _, every := range []string{"0", "1"} {
-		log := runRecorded(t, all, seed, "0", chosen, "GOREC_ALL="+every)
-		traces[every] = rename(t, writeTrace(t, log, all), every)
+		log := runRecorded(t, program, seed, "0", picked, "GOREC_ALL="+every)
+		traces[every] = rename(t, writeTrace(t, log, program), every)
 		os.Remove(log)
 	}
 	for every, report := range judgeAll(t, traces) {
@@ -90,7 +93,7 @@ func (p *randomProgram) check(t *testing.T, all string) {
 			t.Errorf("all %s: races on %s, not on %s\n%s", every, got, p.racy, report)
 		}
 	}
-	segments := recordParts(t, all, all+".parts."+seed, 150+int(p.seed*37%300), 25+int(p.seed*11%200), chosen, "GOREC_SEED="+seed)
+	segments := recordParts(t, program, program+".parts."+seed, 150+int(p.seed*37%300), 25+int(p.seed*11%200), picked, "GOREC_SEED="+seed)
 	for segment, report := range judgeAll(t, segments) {
 		for _, got := range strings.Fields(racyOnes(report)) {
 			if !strings.Contains(" "+p.racy+" ", " "+got+" ") {
@@ -202,8 +205,8 @@ func racyOnes(report string) string {
 	return strings.Join(names, " ")
 }
 
-// maker makes a program of gadgets. A gadget is a variable, and goroutines that use it in one
-// of the ways below; none but main has anything to do with another one.
+// maker makes gadgets. A gadget is a variable, and goroutines that use it in one of the ways
+// below; none but main has anything to do with another one.
 type maker struct {
 	*rand.Rand
 	strings.Builder
@@ -391,22 +394,15 @@ var racing = []func(*maker){
 	},
 }
 
-// A randomProgram is a function in a file of package main.
-type randomProgram struct {
-	seed   int64
-	source string
-	racy   string // the numbers of its gadgets that race
-}
-
 const (
-	gadgets = 12 // of each program
-
 	randomMain = `package main
 
 import (
 	"fmt"
 	"os"
+	"strings"
 	"sync"
+	"sync/atomic"
 )
 
 var (
@@ -421,7 +417,9 @@ func help(f func()) { f() }
 func name(n int) string { return fmt.Sprint("n", n) }
 
 func main() {
-switch os.Getenv("PROGRAM") {
+var wg sync.WaitGroup
+for _, n := range strings.Fields(os.Getenv("GADGETS")) {
+switch n {
 `
 
 	randomHead = `package main
@@ -436,34 +434,61 @@ import (
 var (
 	_ = time.Microsecond
 	_ = runtime.Gosched
+	_ = atomic.AddInt64
 )
 `
 )
 
-func newRandomProgram(seed int64) *randomProgram {
+// A gadget is a function gadgetN of the wait group that main waits for.
+type gadget struct {
+	n      int
+	source string
+	racy   bool
+}
+
+func makeGadgets(seed int64, count int) []gadget {
+	if count > built {
+		count = built
+	}
 	m := &maker{Rand: rand.New(rand.NewSource(seed))}
-	var racy []string
-	var calls, all strings.Builder
-	all.WriteString(randomHead)
-	for i := 0; i < gadgets; i++ {
+	all := make([]gadget, count)
+	for i := range all {
 		m.Reset()
-		m.n = int(seed)*gadgets + i
-		m.form = variableForms[m.Intn(len(variableForms))]
+		m.n, m.form = i, variableForms[m.Intn(len(variableForms))]
 		m.write("%s\nfunc gadget%d(wg *sync.WaitGroup) {\n%s", m.number(m.form.top), m.n, m.number(m.form.local))
 		if m.form.local != "" {
 			m.write("use(&%s)", strings.TrimSuffix(strings.Fields(strings.TrimPrefix(m.number(m.form.local), "var "))[0], ":="))
 		}
-		if m.Intn(2) == 0 {
+		racy := m.Intn(2) == 0
+		if racy {
 			racing[m.Intn(len(racing))](m)
-			racy = append(racy, fmt.Sprint(m.n))
 		} else {
 			clean[m.Intn(len(clean))](m)
 		}
 		m.write("}")
-		all.WriteString(m.String())
-		fmt.Fprintf(&calls, "gadget%d(&wg)\n", m.n)
+		all[i] = gadget{i, m.String(), racy}
+	}
+	return all
+}
+
+// A randomProgram runs some gadgets.
+type randomProgram struct {
+	seed         int64
+	picked, racy string // the numbers of its gadgets, and of those that race
+	source       string
+}
+
+func pickProgram(seed int64, all []gadget) *randomProgram {
+	p := &randomProgram{seed: seed}
+	var racy []string
+	for _, i := range rand.New(rand.NewSource(seed)).Perm(len(all))[:gadgets] {
+		p.picked += fmt.Sprint(i, " ")
+		p.source += all[i].source
+		if all[i].racy {
+			racy = append(racy, fmt.Sprint(i))
+		}
 	}
 	sort.Strings(racy)
-	fmt.Fprintf(&all, "\nfunc program%d() {\nvar wg sync.WaitGroup\n%satomic.AddInt64(&other, 1)\nwg.Wait()\n}\n", seed, calls.String())
-	return &randomProgram{seed, all.String(), strings.Join(racy, " ")}
+	p.racy = strings.Join(racy, " ")
+	return p
 }

@@ -23,6 +23,12 @@ var (
 	randomSeed     = flag.Int64("randomseed", 1, "the first of them")
 )
 
+const (
+	gadgets  = 12  // of a program
+	together = 500 // programs that are built as one
+	built    = 600 // gadgets at most that these are made of
+)
+
 // TestRandomPrograms records random programs, with what one goroutine alone does and without
 // it. The variables that race are those that race by construction, and no trace is illegal.
 func TestRandomPrograms(t *testing.T) {
@@ -30,57 +36,84 @@ func TestRandomPrograms(t *testing.T) {
 	if *randomPrograms == 0 {
 		t.Skip("no -random")
 	}
-	for n := int64(0); n < int64(*randomPrograms); n++ {
-		dir := t.TempDir()
-		source, racy := randomProgram(*randomSeed + n)
-		files := map[string]string{"go.mod": "module random\n\ngo 1.18\n", "main.go": source}
-		for name, text := range files {
-			if err := os.WriteFile(filepath.Join(dir, name), []byte(text), 0o644); err != nil {
-				t.Fatal(err)
-			}
+	last := *randomSeed + int64(*randomPrograms)
+	for first := *randomSeed; first < last; first += together {
+		end := first + together
+		if end > last {
+			end = last
 		}
-		program := filepath.Join(dir, "program")
-		build := exec.Command(gorec, "build", "-o", program, ".")
-		build.Dir = dir
-		if out, err := build.CombinedOutput(); err != nil {
-			t.Fatalf("seed %d: %v\n%s\n%s", *randomSeed+n, err, out, source)
-		}
-		traces := map[string]string{}
-		for _, all := range []string{"0", "1"} {
-			os.Setenv("GOREC_ALL", all)
-			traces[all] = record(t, program, fmt.Sprint(n+1), "0")
-			traces[all] = rename(t, traces[all], all)
-		}
-		os.Unsetenv("GOREC_ALL")
-		for all, report := range judgeAll(t, traces) {
-			if got := racyOnes(report); got != racy {
-				t.Errorf("seed %d, all %s: races on %s, not on %s\n%s%s", *randomSeed+n, all, got, racy, report, source)
-			}
-		}
-		segments := recordParts(t, program, fmt.Sprint(n+1), 150+int(n*37%300), 25+int(n*11%200))
-		for segment, report := range judgeAll(t, segments) {
-			for _, got := range strings.Fields(racyOnes(report)) {
-				if !strings.Contains(" "+racy+" ", " "+got+" ") {
-					t.Errorf("seed %d, segment %s: a race on %s, not on %s\n%s%s", *randomSeed+n, segment, got, racy, report, source)
-				}
-			}
-		}
-		t.Logf("seed %d: %d segments", *randomSeed+n, len(segments))
-		os.RemoveAll(dir)
+		recordRandom(t, first, end)
 	}
+}
+
+// recordRandom builds random gadgets as one program, which runs those that it is told. Each seed
+// from a first one to before an end picks some.
+func recordRandom(t *testing.T, first, end int64) {
+	t.Helper()
+	all := makeGadgets(first, int(end-first)*gadgets)
+	dir := t.TempDir()
+	defer os.RemoveAll(dir)
+	sources, cases := randomHead, randomMain
+	for _, g := range all {
+		sources += g.source
+		cases += fmt.Sprintf("case \"%d\":\ngadget%d(&wg)\n", g.n, g.n)
+	}
+	writeFile(t, filepath.Join(dir, "go.mod"), "module random\n\ngo 1.18\n")
+	writeFile(t, filepath.Join(dir, "gadgets.go"), sources)
+	writeFile(t, filepath.Join(dir, "main.go"), cases+"}\n}\natomic.AddInt64(&other, 1)\nwg.Wait()\n}\n")
+	program := filepath.Join(dir, "program")
+	build(t, dir, ".", program)
+	for seed := first; seed < end; seed++ {
+		p := pickProgram(seed, all)
+		if !t.Run(fmt.Sprint("seed", seed), func(t *testing.T) { p.check(t, program) }) {
+			t.Logf("seed %d:\n%s", seed, p.source)
+		}
+	}
+}
+
+func writeFile(t *testing.T, path, text string) {
+	t.Helper()
+	if err := os.WriteFile(path, []byte(text), 0o644); err != nil {
+		t.Fatal(err)
+	}
+}
+
+// check records the gadgets of a program, whole and in parts.
+func (p *randomProgram) check(t *testing.T, program string) {
+	t.Helper()
+	picked, seed := "GADGETS="+p.picked, fmt.Sprint(p.seed)
+	traces := map[string]string{}
+	for _, every := range []string{"0", "1"} {
+		log := runRecorded(t, program, seed, "0", picked, "GOREC_ALL="+every)
+		traces[every] = rename(t, writeTrace(t, log, program), every)
+		os.Remove(log)
+	}
+	for every, report := range judgeAll(t, traces) {
+		if got := racyOnes(report); got != p.racy {
+			t.Errorf("all %s: races on %s, not on %s\n%s", every, got, p.racy, report)
+		}
+	}
+	segments := recordParts(t, program, program+".parts."+seed, 150+int(p.seed*37%300), 25+int(p.seed*11%200), picked, "GOREC_SEED="+seed)
+	for segment, report := range judgeAll(t, segments) {
+		for _, got := range strings.Fields(racyOnes(report)) {
+			if !strings.Contains(" "+p.racy+" ", " "+got+" ") {
+				t.Errorf("segment %s: a race on %s, not on %s\n%s", segment, got, p.racy, report)
+			}
+		}
+	}
+	t.Logf("%d segments", len(segments))
 }
 
 // recordParts runs a program whose log has short parts, and writes their traces in short
 // segments. Races between segments aren't told, but no race is told that is none.
-func recordParts(t *testing.T, program, seed string, part, events int) map[string]string {
+func recordParts(t *testing.T, program, log string, part, events int, env ...string) map[string]string {
 	t.Helper()
 	table, err := sites.Read(program + ".sites")
 	if err != nil {
 		t.Fatal(err)
 	}
-	log := program + ".parts"
 	cmd := exec.Command(program)
-	cmd.Env = append(os.Environ(), "GOREC_LOG="+log, "GOREC_SEED="+seed, fmt.Sprintf("GOREC_PART=%d", part))
+	cmd.Env = append(append(os.Environ(), "GOREC_LOG="+log, fmt.Sprintf("GOREC_PART=%d", part)), env...)
 	var output bytes.Buffer
 	cmd.Stdout, cmd.Stderr = &output, &output
 	if err := cmd.Start(); err != nil {
@@ -172,8 +205,8 @@ func racyOnes(report string) string {
 	return strings.Join(names, " ")
 }
 
-// maker makes a program of gadgets. A gadget is a variable, and goroutines that use it in one
-// of the ways below; none but main has anything to do with another one.
+// maker makes gadgets. A gadget is a variable, and goroutines that use it in one of the ways
+// below; none but main has anything to do with another one.
 type maker struct {
 	*rand.Rand
 	strings.Builder
@@ -361,26 +394,20 @@ var racing = []func(*maker){
 	},
 }
 
-// randomProgram is a program, and the numbers of its gadgets that race.
-func randomProgram(seed int64) (source, racy string) {
-	m := &maker{Rand: rand.New(rand.NewSource(seed))}
-	var names []string
-	var calls, all strings.Builder
-	all.WriteString(`package main
+const (
+	randomMain = `package main
 
 import (
 	"fmt"
-	"runtime"
+	"os"
+	"strings"
 	"sync"
 	"sync/atomic"
-	"time"
 )
 
 var (
 	common sync.RWMutex
 	other  int64
-	_      = time.Microsecond
-	_      = runtime.Gosched
 )
 
 func use[T any](T) {}
@@ -388,25 +415,80 @@ func use[T any](T) {}
 func help(f func()) { f() }
 
 func name(n int) string { return fmt.Sprint("n", n) }
-`)
-	for m.n = 0; m.n < 12; m.n++ {
+
+func main() {
+var wg sync.WaitGroup
+for _, n := range strings.Fields(os.Getenv("GADGETS")) {
+switch n {
+`
+
+	randomHead = `package main
+
+import (
+	"runtime"
+	"sync"
+	"sync/atomic"
+	"time"
+)
+
+var (
+	_ = time.Microsecond
+	_ = runtime.Gosched
+	_ = atomic.AddInt64
+)
+`
+)
+
+// A gadget is a function gadgetN of the wait group that main waits for.
+type gadget struct {
+	n      int
+	source string
+	racy   bool
+}
+
+func makeGadgets(seed int64, count int) []gadget {
+	if count > built {
+		count = built
+	}
+	m := &maker{Rand: rand.New(rand.NewSource(seed))}
+	all := make([]gadget, count)
+	for i := range all {
 		m.Reset()
-		m.form = variableForms[m.Intn(len(variableForms))]
+		m.n, m.form = i, variableForms[m.Intn(len(variableForms))]
 		m.write("%s\nfunc gadget%d(wg *sync.WaitGroup) {\n%s", m.number(m.form.top), m.n, m.number(m.form.local))
 		if m.form.local != "" {
 			m.write("use(&%s)", strings.TrimSuffix(strings.Fields(strings.TrimPrefix(m.number(m.form.local), "var "))[0], ":="))
 		}
-		if m.Intn(2) == 0 {
+		racy := m.Intn(2) == 0
+		if racy {
 			racing[m.Intn(len(racing))](m)
-			names = append(names, fmt.Sprint(m.n))
 		} else {
 			clean[m.Intn(len(clean))](m)
 		}
 		m.write("}")
-		all.WriteString(m.String())
-		fmt.Fprintf(&calls, "gadget%d(&wg)\n", m.n)
+		all[i] = gadget{i, m.String(), racy}
 	}
-	sort.Strings(names)
-	all.WriteString("\nfunc main() {\nvar wg sync.WaitGroup\n" + calls.String() + "atomic.AddInt64(&other, 1)\nwg.Wait()\n}\n")
-	return all.String(), strings.Join(names, " ")
+	return all
+}
+
+// A randomProgram runs some gadgets.
+type randomProgram struct {
+	seed         int64
+	picked, racy string // the numbers of its gadgets, and of those that race
+	source       string
+}
+
+func pickProgram(seed int64, all []gadget) *randomProgram {
+	p := &randomProgram{seed: seed}
+	var racy []string
+	for _, i := range rand.New(rand.NewSource(seed)).Perm(len(all))[:gadgets] {
+		p.picked += fmt.Sprint(i, " ")
+		p.source += all[i].source
+		if all[i].racy {
+			racy = append(racy, fmt.Sprint(i))
+		}
+	}
+	sort.Strings(racy)
+	p.racy = strings.Join(racy, " ")
+	return p
 }

@@ -136,7 +136,7 @@ func (p *printer) word(op wire.Op) string {
 	return words[op]
 }
 
-func (p *printer) isLending() bool { return p.living() > p.goroutineLimit() }
+func (p *printer) isLending() bool { return p.living > p.goroutineLimit() }
 
 // access writes an access. Where atomic operations come to the location too, each goroutine
 // that does them has a variable of its own, which they read or write; a plain access does so

@@ -60,7 +60,7 @@ func named(s *stretch, o Options) *lender {
 
 // lookAhead is how many records are looked at first for where a trace ends. A long log of many
 // goroutines becomes many traces, and would be looked at to its end for each of them.
-var lookAhead = 1 << 18
+var lookAhead = 1 << 15
 
 // namedUpTo is named for so many records.
 func namedUpTo(s *stretch, to int, o Options) *lender {
@@ -120,7 +120,7 @@ func lend(s *survey) *lender {
 	for g := range l.numbers {
 		l.numbers[g] = g
 	}
-	if s.living() <= s.goroutineLimit() {
+	if s.living <= s.goroutineLimit() {
 		return l
 	}
 	for i := 0; i < s.to; i++ {

@@ -8,7 +8,7 @@ import (
 )
 
 // segments are the traces of a log.
-func segments(t *testing.T, records []wire.Record, o Options) (texts []string, last *Summary) {
+func segments(t testing.TB, records []wire.Record, o Options) (texts []string, last *Summary) {
 	t.Helper()
 	s := NewSegments(records, o)
 	for {
@@ -171,6 +171,21 @@ func TestAValueWaitsThroughSegments(t *testing.T) {
 	}
 }
 
+// BenchmarkSegments is of a log with a segment for each thousand goroutines, of which each starts
+// the next one.
+func BenchmarkSegments(b *testing.B) {
+	records := []wire.Record{{Op: wire.DeclareVar, Object: 1, Site: 1}}
+	for g := uint32(1); g <= 100000; g++ {
+		records = append(records, wire.Record{Op: wire.Go, Goroutine: g - 1, Other: g, Site: 1},
+			wire.Record{Op: wire.Write, Object: 1, Goroutine: g, Site: 2}, wire.Record{Op: wire.Exit, Goroutine: g - 1})
+	}
+	for n := 0; n < b.N; n++ {
+		if texts, _ := segments(b, records, Options{Version: 1}); len(texts) < 2 {
+			b.Fatalf("%d segments", len(texts))
+		}
+	}
+}
+
 // However far a trace looks ahead, its segments are the same.
 func TestLookAhead(t *testing.T) {
 	records := []wire.Record{{Op: wire.DeclareVar, Object: 1, Site: 1}}
@@ -179,7 +194,7 @@ func TestLookAhead(t *testing.T) {
 	}
 	defer func(n int) { lookAhead = n }(lookAhead)
 	var want []string
-	for _, ahead := range []int{1 << 18, 7, 30, 100} {
+	for _, ahead := range []int{1 << 15, 7, 30, 100} {
 		lookAhead = ahead
 		texts, _ := segments(t, records, Options{Version: 1, Goroutines: 20})
 		if want == nil {

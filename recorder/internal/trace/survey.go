@@ -32,6 +32,7 @@ type survey struct {
 	started uint32   // the number of goroutines beside main
 	begin   int      // the first go: what stands before happens before all that others do
 	alive   []bool   // goroutines that do something that is kept, or start one that does
+	living  int      // how many of these there are
 	last    []uint32 // of each goroutine the last record
 }
 
@@ -204,6 +205,12 @@ func (s *survey) findAlive() {
 			s.alive[r.Goroutine] = true
 		}
 	}
+	s.living = 0
+	for _, alive := range s.alive {
+		if alive {
+			s.living++
+		}
+	}
 }
 
 func (s *survey) isFault(r *wire.Record) bool {
@@ -212,14 +219,4 @@ func (s *survey) isFault(r *wire.Record) bool {
 		return s.keep(r.Object)
 	}
 	return false
-}
-
-func (s *survey) living() int {
-	n := 0
-	for _, a := range s.alive {
-		if a {
-			n++
-		}
-	}
-	return n
 }

@@ -1,5 +1,5 @@
 -- How reading an input block by block ends, where it stood for what was fed so far and no read had failed.
-use Rattle.std.proofs.Common.{◌≡◌, ◌≢◌, ℕ, ◌+◌, Bool, true, false, List, Option, Some, Result, Ok, Err, IfOk, IfErr}
+use Rattle.std.proofs.Common.{◌≡◌, ◌≢◌, ℕ, Bool, false, List, Option, Some, Result, Ok, Err, IfOk, IfErr}
 use Rattle.std.{proofs.Common.{IsErrAnd, ap, subst, ◌∙◌}, specs.Io.KnownBytes.Keeps}
 use Rattle.race_records.specs.{declared.source.Source.Source, Devices.{unread, source_failures, one_more}}
 use Rattle.race_text.specs.{declared.cause.{TextCause.TextCause, TextFault.TextFault}, Lines.{Causes, first_fault}}

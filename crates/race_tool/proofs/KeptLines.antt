@@ -1,10 +1,10 @@
 -- The line of a fault is the same in the bytes that were read and in the whole input.
-use Rattle.std.proofs.Common.{◌≡◌, ℕ, zero, suc, ◌+◌, ◌-◌, Bool, true, false, List, [], ◌∷◌, ◌++◌, length, slice_get, Option}
-use Rattle.std.proofs.Common.{Some, None, Result, Err, refl, sym, ap, subst, ◌∙◌, arith}
+use Rattle.std.proofs.Common.{◌≡◌, ℕ, suc, ◌+◌, ◌-◌, Bool, true, false, List, [], ◌∷◌, ◌++◌, length, slice_get, Option}
+use Rattle.std.proofs.Common.{Some, None, Err, refl, sym, ap, subst, ◌∙◌, arith}
 use Rattle.std.proofs.{Common.length-append, lemmas.Option.{none-some, same_Some}}
 use Rattle.race_text.specs.{declared.cause.{TextCause.TextCause, TextFault.TextFault}, Lines.{Causes, or_later, first_fault}, Words.parts_of}
 use Rattle.race_text.{specs.Fed.{ended_after, ended_fault}, proofs.FedLemmas.{glue, seam, ended_fault_stays}}
-use Rattle.race_tool.specs.Input.{IsInput, Reads, ReadsBy, IsReadBy}
+use Rattle.race_tool.specs.Input.{IsInput, Reads, ReadsBy}
 
 module _ (causes : Causes) where
   -- a fault of ended lines stands at one of them, which is the same whatever follows

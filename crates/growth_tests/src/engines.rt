@@ -26,8 +26,6 @@ enum Engine {
     Check(Judging),
     /// Of this text, by so many threads, which judge one event at a time, where a read gives few bytes.
     CheckPieces(&'static [u8], usize),
-    /// Of a long text, whose lines so many threads read ahead.
-    CheckAhead(usize),
     Edges,
     /// By so many workers, or without any by picks.
     Run(Option<usize>),
@@ -103,11 +101,6 @@ type Ending = (u8, Written);
 const CHECKED: Ending = (
     status::RACES,
     Written::One(b"race on x: write by main at p (event 2), read by w at p (event 3)\nraces: 1\n"),
-);
-
-const CHECKED_AHEAD: Ending = (
-    status::CLEAN,
-    Written::One(b"clean: 4001 events, 4001 accesses\n"),
 );
 
 const FAULT: Ending = (status::TEXT_FAULT, Written::One(b"line 7: unknown word\n"));
@@ -188,33 +181,6 @@ impl Read for Pieces {
     }
 }
 
-// A declaration and an event, whose place the lines behind it have too.
-const HEAD: &[u8] = b"gotrace 1\nvar x\nwrite main x 1 bank/account.go:1021\n";
-
-const LINE: &[u8] = b"write main x 1 bank/account.go:1021\n";
-
-// Gives the head, and then, as one read, so many times the line. Two threads share 131,072 bytes or more.
-#[derive(Drop)]
-struct Repeated {
-    head: &'static [u8],
-    times: usize,
-}
-
-impl Read for Repeated {
-    fn read(&mut self, buf: &mut [u8]) -> io::Result<usize> {
-        if !self.head.is_empty() {
-            return self.head.read(buf);
-        }
-        let mut len = 0;
-        while self.times > 0 && LINE.len() <= buf.len() - len {
-            buf[len..len + LINE.len()].copy_from_slice(LINE);
-            len += LINE.len();
-            self.times -= 1;
-        }
-        Ok(len)
-    }
-}
-
 // Whether the output, of this length, is the text.
 fn is_text(output: &[u8], len: usize, text: &[u8]) -> bool {
     len == text.len() && output.starts_with(text)
@@ -248,24 +214,6 @@ fn run_check_in_pieces<R: Threads + Wait + Sync, A: Allocator + Copy + Send + Sy
     run_check(rt, alloc, &mut pieces, sink, &options)
 }
 
-// The status of a check by so many threads, which read ahead.
-fn run_check_ahead<R: Threads + Wait + Sync, A: Allocator + Copy + Send + Sync, W: Write>(
-    rt: &R,
-    alloc: A,
-    sink: &mut Sink<W>,
-    shards: usize,
-) -> u8 {
-    let mut long = Source::new(Repeated {
-        head: HEAD,
-        times: 4_000,
-    });
-    let options = CheckOptions {
-        shards,
-        ..CheckOptions::default()
-    };
-    run_check(rt, alloc, &mut long, sink, &options)
-}
-
 // The status.
 fn run<R: Threads + Wait + Sync, A: Allocator + Copy + Send + Sync>(
     rt: &R,
@@ -282,7 +230,6 @@ fn run<R: Threads + Wait + Sync, A: Allocator + Copy + Send + Sync>(
         Engine::CheckPieces(bytes, shards) => {
             run_check_in_pieces(rt, alloc, bytes, &mut sink, shards)
         }
-        Engine::CheckAhead(threads) => run_check_ahead(rt, alloc, &mut sink, threads),
         Engine::Edges => run_edges(alloc, &mut trace, &mut sink),
         Engine::Run(workers) => {
             let run = run_options(alloc, workers);
@@ -365,12 +312,11 @@ fn engines(rt: HostRuntime) {
 
 // A thread that reads and one that judges grow at one time, in no order that is always the same: so which growth is refused
 // isn't known, and how often differs.
-static BESIDE: [Row; 5] = [
+static BESIDE: [Row; 4] = [
     Row(Engine::CheckPieces(TRACE, 2), CHECKED),
     Row(Engine::CheckPieces(TRACE, 3), CHECKED),
     Row(Engine::CheckPieces(FAULTY, 1), FAULT),
     Row(Engine::CheckPieces(FAULTY, 2), FAULT),
-    Row(Engine::CheckAhead(3), CHECKED_AHEAD),
 ];
 
 #[test]

@@ -220,7 +220,7 @@ pub(crate) fn take_next<'a, G: Grammar>(
 
 // The same of any line.
 #[inline(never)]
-fn take_other<'a, G: Grammar>(
+pub(crate) fn take_other<'a, G: Grammar>(
     reader: &mut G,
     bytes: &'a [u8],
 ) -> Result<Option<&'a [u8]>, TextFault>

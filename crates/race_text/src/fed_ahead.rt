@@ -7,7 +7,7 @@ ghost use Rattle.race_text.specs.Fed as spec;
 
 use crate::ahead::{LineAhead, bytes_from};
 use crate::cause::TextFault;
-use crate::fed::{Fed, Lines, take_next};
+use crate::fed::{Fed, Lines, take_other};
 use crate::stream::EventStream;
 use std::alloc::Allocator;
 
@@ -150,7 +150,8 @@ fn take_until<A: Allocator + Copy>(
 {
     let mut at = from;
     while at < until {
-        match take_next(reader, bytes_from(bytes, at))? {
+        // Not by `take_next`: with a second caller `take_common` isn't inlined in the loop over lines.
+        match take_other(reader, bytes_from(bytes, at))? {
             None => return Ok(at),
             Some(rest) => at = bytes.len() - rest.len(),
         }

@@ -26,6 +26,8 @@ enum Engine {
     Check(Judging),
     /// Of this text, by so many threads, which judge one event at a time, where a read gives few bytes.
     CheckPieces(&'static [u8], usize),
+    /// By so many threads, of which several read lines ahead.
+    CheckRounds(usize),
     Edges,
     /// By so many workers, or without any by picks.
     Run(Option<usize>),
@@ -181,6 +183,33 @@ impl Read for Pieces {
     }
 }
 
+// Gives its bytes, and then one line so often that it is long enough for several threads.
+#[derive(Drop)]
+struct Repeated {
+    bytes: &'static [u8],
+    lines: usize,
+}
+
+// Of 60 bytes, so that not many are needed.
+const LINE: &[u8] = b"write main x 1 store/of/values/that_are_written_often.go:12\n";
+
+const LINES: usize = 2_400;
+
+impl Read for Repeated {
+    fn read(&mut self, buf: &mut [u8]) -> io::Result<usize> {
+        if !self.bytes.is_empty() {
+            return self.bytes.read(buf);
+        }
+        let lines = self.lines.min(buf.len() / LINE.len());
+        self.lines -= lines;
+        let count = lines * LINE.len();
+        for at in 0..count {
+            buf[at] = LINE[at % LINE.len()];
+        }
+        Ok(count)
+    }
+}
+
 // Whether the output, of this length, is the text.
 fn is_text(output: &[u8], len: usize, text: &[u8]) -> bool {
     len == text.len() && output.starts_with(text)
@@ -214,6 +243,26 @@ fn run_check_in_pieces<R: Threads + Wait + Sync, A: Allocator + Copy + Send + Sy
     run_check(rt, alloc, &mut pieces, sink, &options)
 }
 
+// The status of a check by so many threads, of which those that don't judge read lines ahead.
+fn run_check_in_rounds<R: Threads + Wait + Sync, A: Allocator + Copy + Send + Sync, W: Write>(
+    rt: &R,
+    alloc: A,
+    sink: &mut Sink<W>,
+    shards: usize,
+) -> u8 {
+    let mut trace = Source::new(Repeated {
+        bytes: TRACE,
+        lines: LINES,
+    });
+    run_check(
+        rt,
+        alloc,
+        &mut trace,
+        sink,
+        &options(Judging::Shards(shards)),
+    )
+}
+
 // The status.
 fn run<R: Threads + Wait + Sync, A: Allocator + Copy + Send + Sync>(
     rt: &R,
@@ -230,6 +279,7 @@ fn run<R: Threads + Wait + Sync, A: Allocator + Copy + Send + Sync>(
         Engine::CheckPieces(bytes, shards) => {
             run_check_in_pieces(rt, alloc, bytes, &mut sink, shards)
         }
+        Engine::CheckRounds(shards) => run_check_in_rounds(rt, alloc, &mut sink, shards),
         Engine::Edges => run_edges(alloc, &mut trace, &mut sink),
         Engine::Run(workers) => {
             let run = run_options(alloc, workers);
@@ -312,9 +362,11 @@ fn engines(rt: HostRuntime) {
 
 // A thread that reads and one that judges grow at one time, in no order that is always the same: so which growth is refused
 // isn't known, and how often differs.
-static BESIDE: [Row; 4] = [
+static BESIDE: [Row; 6] = [
     Row(Engine::CheckPieces(TRACE, 2), CHECKED),
     Row(Engine::CheckPieces(TRACE, 3), CHECKED),
+    Row(Engine::CheckRounds(3), CHECKED),
+    Row(Engine::CheckRounds(4), CHECKED),
     Row(Engine::CheckPieces(FAULTY, 1), FAULT),
     Row(Engine::CheckPieces(FAULTY, 2), FAULT),
 ];

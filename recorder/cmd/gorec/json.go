@@ -40,8 +40,8 @@ type toldAccess struct {
 }
 
 type startedFrom struct {
-	By    string `json:",omitempty"` // nobody where it was in an earlier segment
-	Place string
+	By    string  `json:",omitempty"` // nobody where it was in an earlier segment
+	Place string  `json:",omitempty"` // none where code that isn't recorded started it
 	Stack []frame `json:",omitempty"`
 }
 

@@ -70,7 +70,7 @@ races: 3
 		Cut:    "more than 65,535 variables, at a.go:7",
 		Starts: map[string][]trace.Start{
 			"g1": {{By: "main", Place: "a.go:1", Event: 1}, {By: "main", Place: "a.go:2", Event: 10}},
-			"g2": {{By: "g1", Place: "a.go:6", Event: 12}},
+			"g2": {{By: "g1", Event: 12}},
 		},
 	}}
 	o.moments = map[int]trace.Moment{
@@ -94,7 +94,7 @@ g2's write of y: after lock of own at a.go:4, lock of mine at a.go:4
 not in the trace, since one goroutine alone used each: own, mine
 g1 was started by main at a.go:1
 g1 was started by main at a.go:2
-g2 was started by g1 at a.go:6
+g2 was started by code that isn't recorded, on behalf of g1
 gorec: not recorded is what these calls do with what their arguments point at: flag.Var (2 places)
 gorec: the trace is cut off after 21 events: more than 65,535 variables, at a.go:7
 `

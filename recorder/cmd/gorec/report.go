@@ -140,8 +140,11 @@ func starters(w io.Writer, races []race, starts map[string][]trace.Start, told m
 				continue
 			}
 			line := fmt.Sprintf("%s was started by %s at %s", a.Goroutine, s.By, s.Place)
-			if s.By == "" {
+			switch {
+			case s.By == "":
 				line = fmt.Sprintf("%s was started at %s, in an earlier segment", a.Goroutine, s.Place)
+			case s.Place == "":
+				line = fmt.Sprintf("%s was started by code that isn't recorded, on behalf of %s", a.Goroutine, s.By)
 			}
 			if !told[line] {
 				told[line] = true

@@ -50,8 +50,8 @@ type tree struct {
 	base    string // the folder that places are relative to
 	own     map[string]bool
 	table   *sites.Table
-	files   string // where a program that is named by its files stands
-	loose   int
+	files   string                      // where a program that is named by its files stands
+	early   []string                    // places of uses that are recorded before a call in them
 	results map[string][]rewrite.Result // by the packages' import paths
 }
 
@@ -81,15 +81,28 @@ func Packages(set *load.Set, base, dir string, flags []string) (*Copy, error) {
 			return nil, err
 		}
 	}
-	if t.loose > 0 {
-		t.Notes = append(t.Notes, fmt.Sprintf("%d calls in the keys and values of maps with keys of interface types, "+
-			"or in arguments, come after the record of the use that they are part of", t.loose))
+	if len(t.early) > 0 {
+		t.Notes = append(t.Notes, earlyNote(t.early))
 	}
 	for _, p := range set.Programs {
 		t.Programs = append(t.Programs, t.program(p))
 	}
 	t.Sites = *t.table
 	return t.Copy, t.addRuntime()
+}
+
+// earlyNote says what is recorded too early, and names up to three places.
+func earlyNote(places []string) string {
+	uses, them := "uses are", "them"
+	if len(places) == 1 {
+		uses, them = "use is", "it"
+	}
+	named := places
+	if len(named) > 3 {
+		named = append(named[:3:3], "..")
+	}
+	return fmt.Sprintf("%d %s recorded before a call that is a part of %s, as f in Encode(f()), "+
+		"so a race with %[3]s may be missed or false (%[4]s)", len(places), uses, them, strings.Join(named, ", "))
 }
 
 // commandLine is the import path of a program that is named by its files.
@@ -163,7 +176,7 @@ func (t *tree) add(p *load.Package) error {
 	}
 	result := rewrite.Package(p, t.base, t.own, t.table)
 	t.results[p.ImportPath] = append(t.results[p.ImportPath], result)
-	t.loose += result.Loose
+	t.early = append(t.early, result.Early...)
 	for i, text := range result.Files {
 		text = placed(text, p.Fset.File(p.Files[i].Pos()).Name())
 		if err := os.WriteFile(filepath.Join(to, filepath.Base(p.GoFiles[i])), []byte(text), 0o644); err != nil {

@@ -95,7 +95,7 @@ func (r *rewriter) assignOne(s *ast.AssignStmt) {
 
 // changeLoose records a change of a map with keys of an interface type.
 func (r *rewriter) changeLoose(x *ast.IndexExpr, values ...ast.Expr) {
-	r.result.Loose += r.countCalls(append(values, x.Index)...)
+	r.noteEarly(x, append(values, x.Index)...)
 	r.looseMap("WriteMap", x.X)
 	r.value(x.Index)
 	r.values(values)

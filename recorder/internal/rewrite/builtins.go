@@ -59,7 +59,7 @@ func (r *rewriter) makeCall(e *ast.CallExpr) {
 func (r *rewriter) deleteCall(e *ast.CallExpr) {
 	m, key := e.Args[0], e.Args[1]
 	if r.isLoose(m) {
-		r.result.Loose += r.countCalls(key)
+		r.noteEarly(key, key)
 		r.looseMap("WriteMap", m)
 		r.value(key)
 		return

@@ -128,7 +128,7 @@ func (r *rewriter) index(e *ast.IndexExpr) {
 	}
 	switch {
 	case r.isLoose(e.X):
-		r.result.Loose += r.countCalls(e.Index)
+		r.noteEarly(e, e.Index)
 		r.looseMap("ReadMap", e.X)
 		r.value(e.Index)
 	case r.isMap(e.X):

@@ -135,7 +135,7 @@ func (r *rewriter) contentCall(e *ast.CallExpr, sel *ast.SelectorExpr, f *types.
 		return
 	}
 	if !isSimple(sel.X) || r.tupleOf(e.Args) > 0 {
-		r.result.Loose++
+		r.noteEarly(e, e.Args...)
 		r.use(sel, call, s)
 		return
 	}

@@ -22,7 +22,7 @@ type Result struct {
 	Sites   string   // one more file: the package's sites, and the function main
 	Refused []string // what can't be recorded, each with its place
 	Missed  []string // calls whose accesses aren't recorded
-	Loose   int      // calls made behind the record of what they stand in
+	Early   []string // places of uses that are recorded before a call that is a part of them
 }
 
 // rewriter is the work on one file.

@@ -201,10 +201,8 @@ func (r *rewriter) isRecorded(e ast.Expr) bool {
 }
 
 // calls reports whether a call or a receive is made in one of es, outside of function literals.
-func (r *rewriter) calls(es ...ast.Expr) bool { return r.countCalls(es...) > 0 }
-
-func (r *rewriter) countCalls(es ...ast.Expr) int {
-	n := 0
+func (r *rewriter) calls(es ...ast.Expr) bool {
+	found := false
 	for _, e := range es {
 		ast.Inspect(e, func(x ast.Node) bool {
 			switch x := x.(type) {
@@ -212,17 +210,24 @@ func (r *rewriter) countCalls(es ...ast.Expr) int {
 				return false
 			case *ast.CallExpr:
 				if tv := r.info.Types[x.Fun]; !tv.IsType() && !tv.IsBuiltin() {
-					n++
+					found = true
 				}
 			case *ast.UnaryExpr:
 				if x.Op.String() == "<-" {
-					n++
+					found = true
 				}
 			}
-			return true
+			return !found
 		})
 	}
-	return n
+	return found
+}
+
+// noteEarly notes that the use at n is recorded before those of es are evaluated, where one of them calls something.
+func (r *rewriter) noteEarly(n ast.Node, es ...ast.Expr) {
+	if r.calls(es...) {
+		r.result.Early = append(r.result.Early, r.place(n.Pos()))
+	}
 }
 
 func hasReceiver(f *types.Func) bool { return f.Type().(*types.Signature).Recv() != nil }

@@ -188,7 +188,7 @@ func (p *printer) start(r *wire.Record) {
 	}
 	s := Start{By: p.nameOf(r.Goroutine), Place: p.table[r.Site].Place, Event: p.events, Stack: r.OtherSite}
 	if wire.GoKind(r.Kind) == wire.GoForeign {
-		s.Place = "a place that isn't recorded"
+		s.Place = ""
 	}
 	if wire.GoKind(r.Kind) == wire.GoEarlier {
 		s.By = ""

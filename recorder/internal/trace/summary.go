@@ -14,7 +14,7 @@ import (
 // Start is where a goroutine was started, before the event that is counted from 1. By is "" for
 // one that was started before the segment.
 type Start struct {
-	By, Place string
+	By, Place string // no place where code that isn't recorded started it, on behalf of By
 	Event     int
 	Stack     uint32 // the number of the calls that led there, 0 for none known
 }

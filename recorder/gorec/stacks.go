@@ -3,9 +3,7 @@ package gorec
 import (
 	"math/bits"
 	"os"
-	"runtime"
 	"strconv"
-	"strings"
 	"sync"
 	"sync/atomic"
 	"unsafe"
@@ -27,6 +25,7 @@ var (
 	stackFile    *os.File // nil: none is wanted
 	stacksLock   sync.Mutex
 	stacks       = map[stackKey]uint32{}
+	stackLine    []byte          // the last one that was written
 	recentStacks [1 << 10]uint64 // before that table: all of a key but its last bits, and the number
 )
 
@@ -95,29 +94,44 @@ func hashReturns() stackKey {
 	return stackKey(h ^ h>>29)
 }
 
-// writeStack writes the calls that led here, those of the recorder itself left out: function
-// and place, function and place.
-func writeStack(id uint32) {
-	var pcs [deepest]uintptr
-	frames := runtime.CallersFrames(pcs[:runtime.Callers(2, pcs[:])])
-	line := strconv.AppendUint(nil, uint64(id), 10)
-	for {
-		f, more := frames.Next()
-		if f.Function != "" && !isOurs(f.Function) && !strings.HasSuffix(f.File, "/gorec_sites.go") {
-			line = append(append(line, '\t'), strings.Replace(f.Function, ".gorec_main", ".main", 1)...)
-			line = append(append(append(line, '\t'), f.File...), ':')
-			line = strconv.AppendInt(line, int64(f.Line), 10)
+// followReturns follows them as hashReturns does, keeps the return addresses, and answers how many
+// there are.
+//
+//go:nosplit
+//go:noinline
+func followReturns(returns *[deepest]uintptr) int {
+	const word = unsafe.Sizeof(uintptr(0))
+	high := stackTop() - 2*word
+	fp, n := framePointer(), 0
+	for ; n < deepest && fp != nil && uintptr(fp) < high; n++ {
+		returns[n] = *(*uintptr)(unsafe.Add(fp, word))
+		next := *(*unsafe.Pointer)(fp)
+		if uintptr(next) <= uintptr(fp) {
+			return n + 1
 		}
-		if !more {
-			break
-		}
+		fp = next
 	}
-	stackFile.Write(append(line, '\n'))
+	return n
 }
 
-const ownPackage = "gorace.local/recorder/gorec."
-
-// isOurs reports whether a function is the recorder's, or one that begins each goroutine.
-func isOurs(function string) bool {
-	return strings.HasPrefix(function, ownPackage) || function == "runtime.goexit" || function == "runtime.main"
+// writeStack writes the calls that led here, those of the recorder itself left out: function
+// and place, function and place.
+//
+//go:noinline
+func writeStack(id uint32) {
+	var all [deepest]uintptr
+	returns := all[:followReturns(&all)]
+	if len(returns) > 0 {
+		returns = returns[1:] // the first one is here
+	}
+	line := strconv.AppendUint(stackLine[:0], uint64(id), 10)
+	if areKnown(returns) {
+		for _, pc := range returns {
+			line = append(line, calls[pc].text...)
+		}
+	} else {
+		line = learn(line, returns)
+	}
+	stackLine = append(line, '\n')
+	stackFile.Write(stackLine)
 }

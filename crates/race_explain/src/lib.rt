@@ -4,6 +4,7 @@
 mod channel_rule;
 mod clean;
 mod count;
+mod cut_off;
 mod explain;
 mod fault;
 mod field;

@@ -63,8 +63,8 @@ pub(crate) fn name_in<'a, A: Allocator>(
     (found.word, 0)
 }
 
-// Whether the word has names after other words.
-fn is_list(field: Field) -> bool {
+/// Whether the word has names after other words.
+pub(crate) fn is_list(field: Field) -> bool {
     match field {
         Field::Operand(OperandKind::Cases) => true,
         Field::Operand(OperandKind::Cause) => true,
@@ -230,8 +230,8 @@ fn put_unknown<A: Allocator, B: Allocator>(
     }
 }
 
-// The kind of the name that is wanted in the word.
-fn wanted_kind(found: &FaultyWord<'_>) -> Option<Kind> {
+/// The kind of the name that is wanted in the word.
+pub(crate) fn wanted_kind(found: &FaultyWord<'_>) -> Option<Kind> {
     match found.field {
         Field::Operand(OperandKind::Object(kind)) => Some(kind),
         Field::Operand(OperandKind::RwMutex) => Some(Kind::Lock),

@@ -4,6 +4,7 @@
 mod channel_rule;
 mod clean;
 mod count;
+pub mod examples;
 mod explain;
 mod fault;
 mod field;

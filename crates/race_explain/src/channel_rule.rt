@@ -28,34 +28,58 @@ pub(crate) fn put_channel_rule<A: Allocator, B: Allocator>(
             put(out, &[", which is closed"])?;
             put_since(out, trace, at, Deed::Closes(chan), " closed it")
         }
-        Rule::BufferFull => {
-            put_waiting(out, trace, at, chan, ", in whose buffer ")?;
-            put_number_in(out, ", and its capacity is ", capacity(trace, chan), "")?;
-            put_missing_receive(out, trace, at, chan)
-        }
+        Rule::BufferFull => put_full(out, trace, at, chan),
         Rule::BufferEmpty => put_empty(out, trace, at, op, chan),
         Rule::WrongValue => put_wrong_value(out, trace, at, op, chan),
-        Rule::NotClosed => {
-            put(
-                out,
-                &[", which is open: no event before this one closes it"],
-            )?;
-            put_later(
-                out,
-                trace,
-                at,
-                Deed::Closes(chan),
-                " does",
-                "; a close may be missing",
-            )
-        }
-        Rule::NotDrained => {
-            put_waiting(out, trace, at, chan, ", in whose buffer ")?;
-            put_front(out, trace, at, chan)?;
-            put_missing_receive(out, trace, at, chan)
-        }
+        Rule::NotClosed => put_not_closed(out, trace, at, chan),
+        Rule::NotDrained => put_not_drained(out, trace, at, chan),
         _ => Ok(()),
     }
+}
+
+// A send to a full buffer.
+fn put_full<A: Allocator, B: Allocator>(
+    out: &mut Vec<u8, A>,
+    trace: &Trace<B>,
+    at: u32,
+    chan: u32,
+) -> Result<(), AllocError> {
+    put_waiting(out, trace, at, chan, ", in whose buffer ")?;
+    put_number_in(out, ", and its capacity is ", capacity(trace, chan), "")?;
+    put_missing_receive(out, trace, at, chan)
+}
+
+// A recvclosed from an open channel.
+fn put_not_closed<A: Allocator, B: Allocator>(
+    out: &mut Vec<u8, A>,
+    trace: &Trace<B>,
+    at: u32,
+    chan: u32,
+) -> Result<(), AllocError> {
+    put(
+        out,
+        &[", which is open: no event before this one closes it"],
+    )?;
+    put_later(
+        out,
+        trace,
+        at,
+        Deed::Closes(chan),
+        " does",
+        "; a close may be missing",
+    )
+}
+
+// A recvclosed from a channel in whose buffer a value waits.
+fn put_not_drained<A: Allocator, B: Allocator>(
+    out: &mut Vec<u8, A>,
+    trace: &Trace<B>,
+    at: u32,
+    chan: u32,
+) -> Result<(), AllocError> {
+    put_waiting(out, trace, at, chan, ", in whose buffer ")?;
+    put_front(out, trace, at, chan)?;
+    put_missing_receive(out, trace, at, chan)
 }
 
 // What the operation does on which channel.
@@ -132,7 +156,7 @@ fn put_closed<A: Allocator, B: Allocator>(
     )
 }
 
-// Which event receives the value that waits longest only later, or that a receive of it may be missing.
+// Which event receives only later, and that a receive of the value that waits longest may be missing.
 fn put_missing_receive<A: Allocator, B: Allocator>(
     out: &mut Vec<u8, A>,
     trace: &Trace<B>,
@@ -141,12 +165,15 @@ fn put_missing_receive<A: Allocator, B: Allocator>(
 ) -> Result<(), AllocError> {
     let receives = Deed::Receives(chan);
     match front(trace, at, chan) {
-        Some(send) => if first_after(trace, at, receives).is_some() {
-            put_later(out, trace, at, receives, " receives", "")
-        } else {
-            let value = value_of(trace, send);
-            put_number_in(out, "; a recv of ", value, " may be missing before it")
-        },
+        Some(send) => {
+            put_later(out, trace, at, receives, " receives", "")?;
+            let or = if first_after(trace, at, receives).is_some() {
+                ", or a recv of "
+            } else {
+                "; a recv of "
+            };
+            put_number_in(out, or, value_of(trace, send), " may be missing before it")
+        }
         None => Ok(()),
     }
 }
@@ -236,7 +263,7 @@ fn put_unsent<A: Allocator, B: Allocator>(
             out,
             "; no event sends ",
             value,
-            ", so a send of it may be missing before",
+            ", so a send of it may be missing before, or the value is wrong",
         ),
     }
 }

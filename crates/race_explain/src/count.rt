@@ -1,5 +1,6 @@
 //! A line with too many words or too few: where it is marked, and what is said of it.
 
+use crate::cut_off::is_cut_off;
 use crate::field::{fields_of, one_of, put_fields};
 use crate::line::put_quoted;
 use crate::put::{put, put_number_in};
@@ -11,8 +12,11 @@ use std::alloc::{AllocError, Allocator};
 /// The longest word that begins a line.
 const LONGEST: usize = 10;
 
-/// Where the line is marked: at a second line in it, at the first blank or word too many, where a word is missing, or else at
-/// its end.
+/// The longest place.
+const LONGEST_PLACE: usize = 128;
+
+/// Where the line is marked: at a second line in it, where it is cut off, at the first blank or word too many, where a word is
+/// missing, or else at the first word that isn't what is wanted.
 pub(crate) fn count_column<A: Allocator>(before: Option<&Trace<A>>, line: &[u8]) -> usize {
     let Some(word) = word_named(cut_at(line, b' ').0) else {
         return 0;
@@ -21,12 +25,23 @@ pub(crate) fn count_column<A: Allocator>(before: Option<&Trace<A>>, line: &[u8])
     if let Some(joined) = joined_line(fields.len(), line) {
         return column_in(line, joined);
     }
+    if before.is_some_and(|trace| is_cut_off(trace, fields.as_slice(), line)) {
+        return line.len();
+    }
     match spare_blank(line) {
         Some(column) => column.min(column_of_word(line, fields.len())),
-        None => match before.and_then(|trace| misfit(trace.decls(), fields.as_slice(), line)) {
-            Some(number) => column_of_word(line, number),
+        None => match before {
+            Some(trace) => column_of_word(line, wrong_word(trace.decls(), fields.as_slice(), line)),
             None => column_of_word(line, fields.len()),
         },
+    }
+}
+
+// Before how many words others are missing or too many, or how many there are before one that isn't what is wanted.
+fn wrong_word<A: Allocator>(decls: &Decls<A>, fields: &[Field], line: &[u8]) -> usize {
+    match misfit(decls, fields, line) {
+        Some(number) => number,
+        None => fitting(decls, fields, line),
     }
 }
 
@@ -68,8 +83,8 @@ fn joined_line(wanted: usize, line: &[u8]) -> Option<&[u8]> {
     None
 }
 
-// Whether a word that begins a line comes first, and as many as it wants after it.
-fn is_whole(bytes: &[u8]) -> bool {
+/// Whether a word that begins a line comes first, and as many as it wants after it.
+pub(crate) fn is_whole(bytes: &[u8]) -> bool {
     match word_named(cut_at(bytes, b' ').0) {
         Some(word) => from_word(bytes, fields_of(word).len()).is_some(),
         None => false,
@@ -92,8 +107,8 @@ fn misfit<A: Allocator>(decls: &Decls<A>, fields: &[Field], line: &[u8]) -> Opti
     found
 }
 
-// How many words after the first are what is wanted there, before one that isn't.
-fn fitting<A: Allocator>(decls: &Decls<A>, fields: &[Field], line: &[u8]) -> usize {
+/// How many words after the first are what is wanted there, before one that isn't.
+pub(crate) fn fitting<A: Allocator>(decls: &Decls<A>, fields: &[Field], line: &[u8]) -> usize {
     let mut left = cut_at(line, b' ').1;
     let mut count = 0usize;
     for field in fields {
@@ -110,8 +125,8 @@ fn fitting<A: Allocator>(decls: &Decls<A>, fields: &[Field], line: &[u8]) -> usi
     count
 }
 
-// How many words come after the first.
-fn count_words(line: &[u8]) -> usize {
+/// How many words come after the first.
+pub(crate) fn count_words(line: &[u8]) -> usize {
     let mut words = 0usize;
     for _ in split_words(line) {
         words = words.saturating_add(1);
@@ -132,16 +147,18 @@ pub(crate) fn put_count<A: Allocator, B: Allocator>(
     let fields = fields_of(word);
     put_wanted(out, first, fields.as_slice())?;
     put_number_in(out, "; has ", count_words(line) as u64, "")?;
-    if let Some(column) = spare_blank(line) {
-        put_spare_blank(out, column.saturating_add(1) == line.len())?;
-    } else if let Some(trace) = before {
-        put_missing(out, trace.decls(), fields.as_slice(), line)?;
+    if let Some(joined) = joined_line(fields.len(), line) {
+        put(out, &["; a newline may be missing before "])?;
+        return put_quoted(out, cut_at(joined, b' ').0);
     }
-    match joined_line(fields.len(), line) {
-        Some(joined) => {
-            put(out, &["; a newline may be missing before "])?;
-            put_quoted(out, cut_at(joined, b' ').0)
-        }
+    if before.is_some_and(|trace| is_cut_off(trace, fields.as_slice(), line)) {
+        return put(out, &["; the line seems to be cut off at the mark"]);
+    }
+    if let Some(column) = spare_blank(line) {
+        return put_spare_blank(out, column.saturating_add(1) == line.len());
+    }
+    match before {
+        Some(trace) => put_misfit(out, trace.decls(), fields.as_slice(), line),
         None => Ok(()),
     }
 }
@@ -176,18 +193,100 @@ fn put_spare_blank<A: Allocator>(out: &mut Vec<u8, A>, is_at_end: bool) -> Resul
     )
 }
 
-// Which word is missing, where it is one alone and all others fit.
-fn put_missing<A: Allocator, B: Allocator>(
+// Which words are too many, which one is missing, or which isn't what is wanted.
+fn put_misfit<A: Allocator, B: Allocator>(
     out: &mut Vec<u8, A>,
     decls: &Decls<B>,
     fields: &[Field],
     line: &[u8],
 ) -> Result<(), AllocError> {
-    if count_words(line).saturating_add(1) != fields.len() {
-        return Ok(());
+    let count = count_words(line);
+    match misfit(decls, fields, line) {
+        Some(number) => if count > fields.len() {
+            put_spare(out, count - fields.len())?;
+            if number == fields.len() {
+                put_spaced_place(out, fields, line)?;
+            }
+            Ok(())
+        } else if count.saturating_add(1) == fields.len() {
+            put_missing(out, fields, number)
+        } else {
+            Ok(())
+        },
+        None => put_wrong(out, fields, line, fitting(decls, fields, line)),
     }
-    match misfit(decls, fields, line).and_then(|number| fields.get(number)) {
+}
+
+fn put_spare<A: Allocator>(out: &mut Vec<u8, A>, count: usize) -> Result<(), AllocError> {
+    let words = if count == 1 {
+        " word too many at the mark"
+    } else {
+        " words too many at the mark"
+    };
+    put_number_in(out, "; ", count as u64, words)
+}
+
+// Which word is missing, where all others fit.
+fn put_missing<A: Allocator>(
+    out: &mut Vec<u8, A>,
+    fields: &[Field],
+    number: usize,
+) -> Result<(), AllocError> {
+    match fields.get(number) {
         Some(field) => put(out, &["; ", one_of(*field), " is missing at the mark"]),
         None => Ok(()),
     }
+}
+
+// Which word is the first that isn't what is wanted there.
+fn put_wrong<A: Allocator>(
+    out: &mut Vec<u8, A>,
+    fields: &[Field],
+    line: &[u8],
+    number: usize,
+) -> Result<(), AllocError> {
+    match (
+        fields.get(number),
+        from_word(line, number.saturating_add(1)),
+    ) {
+        (Some(field), Some(bytes)) => {
+            put(out, &["; "])?;
+            put_quoted(out, cut_at(bytes, b' ').0)?;
+            put(out, &[" isn't ", one_of(*field)])
+        }
+        _ => Ok(()),
+    }
+}
+
+// That a place has no blank, where others follow the last word that is wanted, and this is a place.
+fn put_spaced_place<A: Allocator>(
+    out: &mut Vec<u8, A>,
+    fields: &[Field],
+    line: &[u8],
+) -> Result<(), AllocError> {
+    if fields.last().copied() != Some(Field::Place) {
+        return Ok(());
+    }
+    put(out, &[", or a place with a blank, which no place has: "])?;
+    match from_word(line, fields.len()) {
+        Some(place) => if place.len() <= LONGEST_PLACE && !has_two_places(fields) {
+            put(out, &["write "])?;
+            put_joined(out, place)
+        } else {
+            put(out, &["write _ for it"])
+        },
+        None => Ok(()),
+    }
+}
+
+fn has_two_places(fields: &[Field]) -> bool {
+    fields.len() > 1 && fields[fields.len() - 2] == Field::Place
+}
+
+// Puts the words with _ in place of the blanks between them.
+fn put_joined<A: Allocator>(out: &mut Vec<u8, A>, words: &[u8]) -> Result<(), AllocError> {
+    for byte in words {
+        out.push(if *byte == b' ' { b'_' } else { *byte })?;
+    }
+    Ok(())
 }

@@ -67,7 +67,7 @@ fn put_sentence<A: Allocator, B: Allocator>(
 ) -> Result<(), AllocError> {
     match faulty.fault.cause {
         TextCause::BadHeader => put(out, &[looks_like(faulty.line)]),
-        TextCause::NoNewline => put_unended(out, faulty.fault.line),
+        TextCause::NoNewline => put_unended(out, faulty.line, faulty.fault.line),
         TextCause::BadByte => put_bad_byte(out, faulty.line),
         TextCause::UnknownWord => put_unknown_word(out, faulty.line),
         TextCause::WrongCount => put_count(out, faulty.before.as_ref(), faulty.line),

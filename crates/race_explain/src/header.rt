@@ -3,7 +3,7 @@
 use race_text::{cut_at, word_named};
 
 // How some other kinds of file begin, and what to do with them.
-const FRONTS: [(&[u8], &str); 14] = [
+const FRONTS: [(&[u8], &str); 15] = [
     (
         b"\xef\xbb\xbf",
         "the input begins with a byte order mark: tail -c +4 < FILE | gorace explain",
@@ -53,6 +53,10 @@ const FRONTS: [(&[u8], &str); 14] = [
         "the input looks like JSON: a trace is a text of lines, which begins with gotrace 1 or gotrace 2",
     ),
     (b" ", "a blank comes before the header"),
+    (
+        b"gotrace\t",
+        "a tab separates gotrace from the version, where a blank is wanted: gotrace 1 or gotrace 2",
+    ),
     (
         b"#",
         "a trace has no comments: its first line is gotrace 1 or gotrace 2",
@@ -130,7 +134,7 @@ fn returned_text(others: &[u8]) -> &'static str {
 
 /// Where a first line that begins with gotrace differs from a header; another is wrong from its start.
 pub(crate) fn header_column(line: &[u8]) -> usize {
-    if cut_at(line, b' ').0 != b"gotrace".as_slice() {
+    if !line.starts_with(b"gotrace") {
         return 0;
     }
     let header = if line.len() > 8 && line[8] == b'2' {

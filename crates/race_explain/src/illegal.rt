@@ -133,7 +133,7 @@ fn put_idle<A: Allocator, B: Allocator>(
 ) -> Result<(), AllocError> {
     put(out, &[" isn't running: "])?;
     if let Some(exit) = last_before(trace, at, Deed::Exits(goroutine)) {
-        return put_at(out, trace, "", exit, " is its exit");
+        return put_at(out, trace, "", exit, " is its exit, which comes last");
     }
     put(out, &["no event before this one starts it"])?;
     let starts = Deed::Starts(goroutine);
@@ -181,7 +181,13 @@ fn put_already_started<A: Allocator, B: Allocator>(
     match last_before(trace, at, Deed::Starts(*started)) {
         Some(start) => {
             put(out, &[goroutine(trace, *started)])?;
-            put_at(out, trace, " was started by ", start, "")
+            put_at(
+                out,
+                trace,
+                " was started by ",
+                start,
+                "; another goroutine has another name",
+            )
         }
         None => put(out, &["main runs from the start, and no event starts it"]),
     }

@@ -4,6 +4,8 @@
 mod channel_rule;
 mod clean;
 mod count;
+mod cut_off;
+pub mod examples;
 mod explain;
 mod fault;
 mod field;

@@ -4,7 +4,7 @@ ghost use Rattle.race_records.specs.Name.{is_name};
 
 use crate::fault::Faulty;
 use crate::field::{form_of, one_of};
-use crate::line::put_quoted;
+use crate::line::{put_quoted, put_visible};
 use crate::names::{name_of, numbered};
 use crate::near::Guess;
 use crate::put::{put, put_at, put_number_in};
@@ -63,8 +63,8 @@ pub(crate) fn name_in<'a, A: Allocator>(
     (found.word, 0)
 }
 
-// Whether the word has names after other words.
-fn is_list(field: Field) -> bool {
+/// Whether the word has names after other words.
+pub(crate) fn is_list(field: Field) -> bool {
     match field {
         Field::Operand(OperandKind::Cases) => true,
         Field::Operand(OperandKind::Cause) => true,
@@ -95,6 +95,10 @@ fn put_bad_form<A: Allocator>(
         return put_empty_word(out, found, line);
     }
     put_quoted(out, found.word)?;
+    if found.word.len() > longest(found.field) {
+        put_number_in(out, " has ", found.word.len() as u64, " bytes: ")?;
+        return put(out, &[form_of(found.field)]);
+    }
     if cause == TextCause::BadNumber && is_of_digits(found.word) {
         let what = if found.word.starts_with(b"0") {
             " has a leading zero: "
@@ -107,6 +111,17 @@ fn put_bad_form<A: Allocator>(
         out,
         &[" isn't ", one_of(found.field), ": ", form_of(found.field)],
     )
+}
+
+// How many bytes a name or a place has at most.
+fn longest(field: Field) -> usize {
+    match field {
+        Field::NewName => 64,
+        Field::Operand(OperandKind::Object(_)) => 64,
+        Field::Operand(OperandKind::RwMutex) => 64,
+        Field::Place => 128,
+        _ => usize::MAX,
+    }
 }
 
 // What is said of an empty word.
@@ -224,14 +239,38 @@ fn put_unknown<A: Allocator, B: Allocator>(
     if let Some(line) = declared_after(faulty, name) {
         return put_number_in(out, "; line ", line, " declares it, but comes later");
     }
-    match wanted_kind(found).and_then(|kind| meant(before, kind, name)) {
+    let Some(kind) = wanted_kind(found) else {
+        return Ok(());
+    };
+    match meant(before, kind, name) {
         Some(known) => put(out, &["; did you mean \"", known, "\"?"]),
-        None => Ok(()),
+        None => put_declaring(out, found, kind, name),
     }
 }
 
-// The kind of the name that is wanted in the word.
-fn wanted_kind(found: &FaultyWord<'_>) -> Option<Kind> {
+// Which declaration may be missing.
+fn put_declaring<A: Allocator>(
+    out: &mut Vec<u8, A>,
+    found: &FaultyWord<'_>,
+    kind: Kind,
+    name: &[u8],
+) -> Result<(), AllocError> {
+    let is_rw = found.field == Field::Operand(OperandKind::RwMutex)
+        || found.word.starts_with(b"runlock:");
+    let word = match kind {
+        Kind::Goroutine => "goroutine ",
+        Kind::Var => "var ",
+        Kind::Chan => "chan ",
+        Kind::Lock => if is_rw { "rwmutex " } else { "mutex " },
+        Kind::Once => "once ",
+    };
+    put(out, &["; a line may be missing before all events: ", word])?;
+    put_visible(out, name)?;
+    put(out, &[if kind == Kind::Chan { " CAP" } else { "" }])
+}
+
+/// The kind of the name that is wanted in the word.
+pub(crate) fn wanted_kind(found: &FaultyWord<'_>) -> Option<Kind> {
     match found.field {
         Field::Operand(OperandKind::Object(kind)) => Some(kind),
         Field::Operand(OperandKind::RwMutex) => Some(Kind::Lock),

@@ -7,6 +7,7 @@ use crate::names::{event_at, goroutine, name_of, place_of, who_at};
 use crate::past::{Deed, last_before};
 use crate::put::{put, put_number_in};
 use crate::shown::put_event;
+use crate::unlocking::put_unlocked_by_another;
 use race_records::{Named, Trace};
 use race_report::access_word;
 use race_shards::last_seen;
@@ -42,6 +43,7 @@ fn put_why<A: Allocator + Copy, B: Allocator>(
 {
     put_access(out, trace, race, race.first)?;
     put_access(out, trace, race, race.second)?;
+    put_unlocked_by_another(out, trace, race.first, race.second)?;
     put_starter(out, trace, race.first)?;
     put_starter(out, trace, race.second)?;
     let seen = last_seen(*out.allocator(), trace, race)?;

@@ -1,11 +1,11 @@
 //! Why an event on a variable, a lock or a once breaks its rule.
 
 use crate::illegal::{put_later, put_since};
-use crate::names::{event_at, goroutine, name_of, who_at};
-use crate::past::{Deed, first_after, is_locked, last_before, readers};
+use crate::names::{event_at, goroutine, name_of, place_of, who_at};
+use crate::past::{Deed, does, first_after, is_locked, last_before, readers};
 use crate::put::{put, put_at, put_number, put_number_in};
 use crate::unlocking::put_not_free;
-use race_records::{Event, Named, Op, Trace};
+use race_records::{Event, Kind, Named, Op, Trace};
 use std::alloc::{AllocError, Allocator};
 
 /// A read of another value than the variable has.
@@ -50,7 +50,7 @@ fn put_origin<A: Allocator, B: Allocator>(
     var: u32,
     value: u64,
 ) -> Result<(), AllocError> {
-    let order = ": the two lines may stand in the wrong order";
+    let order = ": the two lines may stand in the wrong order, or the value is wrong";
     if had_before(trace, at, var, value) {
         put(
             out,
@@ -67,7 +67,12 @@ fn put_origin<A: Allocator, B: Allocator>(
             )?;
             put(out, &[order])
         }
-        None => put_number_in(out, "; a write of ", value, " may be missing before it"),
+        None => put_number_in(
+            out,
+            "; a write of ",
+            value,
+            " may be missing before it, or the value is wrong",
+        ),
     }
 }
 
@@ -103,14 +108,50 @@ pub(crate) fn put_lock_rule<A: Allocator + Copy, B: Allocator>(
     event: &Event,
 ) -> Result<(), AllocError> {
     match event.op {
-        Op::Lock(lock) => put_not_free(out, trace, at, event.who, lock),
-        Op::TryLock(lock) => put_not_free(out, trace, at, event.who, lock),
+        Op::Lock(lock) => {
+            put_not_free(out, trace, at, event.who, lock)?;
+            put_for_reading(out, trace, lock)
+        }
+        Op::TryLock(lock) => put_tried(out, trace, at, event, lock),
         Op::RLock(lock) => put_not_free(out, trace, at, event.who, lock),
-        Op::TryRLock(lock) => put_not_free(out, trace, at, event.who, lock),
+        Op::TryRLock(lock) => put_tried(out, trace, at, event, lock),
         Op::Unlock(lock) => put_not_held(out, trace, at, lock, WRITING, READING),
         Op::RUnlock(lock) => put_not_held(out, trace, at, lock, READING, WRITING),
         _ => Ok(()),
     }
+}
+
+// How a lock of an rwmutex for reading is written.
+fn put_for_reading<A: Allocator, B: Allocator>(
+    out: &mut Vec<u8, A>,
+    trace: &Trace<B>,
+    lock: u32,
+) -> Result<(), AllocError> {
+    if lock < trace.decls().count(Kind::Lock) && trace.decls().is_rw(lock) {
+        put(out, &["; if this locks it for reading, write rlock"])
+    } else {
+        Ok(())
+    }
+}
+
+// Who holds the lock that a try locks, and how a try is written that failed.
+fn put_tried<A: Allocator + Copy, B: Allocator>(
+    out: &mut Vec<u8, A>,
+    trace: &Trace<B>,
+    at: u32,
+    event: &Event,
+    lock: u32,
+) -> Result<(), AllocError> {
+    put_not_free(out, trace, at, event.who, lock)?;
+    put(
+        out,
+        &[
+            "; if this try failed, write tryfail ",
+            goroutine(trace, event.who),
+        ],
+    )?;
+    put(out, &[" ", name_of(trace, Named::Lock(lock))])?;
+    put(out, &[" ", place_of(trace, event.place)])
 }
 
 /// A way to hold a lock.
@@ -121,7 +162,7 @@ struct Mode {
     unheld: &'static str,
     /// What is said of it where it is held the other way.
     held_else: &'static str,
-    /// What is said where no event locks it so.
+    /// Whose lock may be missing.
     missing: &'static str,
 }
 
@@ -129,14 +170,14 @@ const WRITING: Mode = Mode {
     reading: false,
     unheld: " isn't locked",
     held_else: " isn't locked, but locked for reading, which a runlock ends",
-    missing: "; a lock may be missing",
+    missing: "; a lock by ",
 };
 
 const READING: Mode = Mode {
     reading: true,
     unheld: " isn't locked for reading",
     held_else: " isn't locked for reading, but for writing, which an unlock ends",
-    missing: "; an rlock may be missing",
+    missing: "; an rlock by ",
 };
 
 // What locks so, and what unlocks.
@@ -166,26 +207,52 @@ fn put_not_held<A: Allocator, B: Allocator>(
     mode: Mode,
     other: Mode,
 ) -> Result<(), AllocError> {
-    let name = name_of(trace, Named::Lock(lock));
+    put(out, &[name_of(trace, Named::Lock(lock))])?;
     if is_held(trace, at, lock, other) {
-        put(out, &[name])?;
         put(out, &[mode.held_else])?;
         return put_since(out, trace, at, deeds(other, lock).0, " locked it");
     }
-    put(out, &[name])?;
     put(out, &[mode.unheld])?;
     let (locks, unlocks) = deeds(mode, lock);
     match last_before(trace, at, unlocks) {
         Some(unlock) => {
             put_since(out, trace, at, unlocks, " unlocked it")?;
             put_other_locker(out, trace, unlock, locks)?;
-            put_later(out, trace, at, locks, " locks it again", mode.missing)
         }
+        None => put(out, &[": no event before this one locks it"])?,
+    }
+    match locked_after(trace, at, locks, unlocks) {
+        Some(later) => put_at(out, trace, "; ", later, " locks it, but comes later"),
         None => {
-            put(out, &[": no event before this one locks it"])?;
-            put_later(out, trace, at, locks, " does", mode.missing)
+            put(out, &[mode.missing])?;
+            put(out, &[who_at(trace, at), " may be missing before it"])
         }
     }
+}
+
+// The first lock after the event by its goroutine that isn't followed by an own unlock.
+fn locked_after<A: Allocator>(
+    trace: &Trace<A>,
+    from: u32,
+    locks: Deed,
+    unlocks: Deed,
+) -> Option<u32> {
+    let who = event_at(trace, from)?.who;
+    let mut found = None;
+    let mut at = 0;
+    for event in trace.events() {
+        if at > from && event.who == who {
+            if does(event, unlocks) {
+                found = None;
+            } else if does(event, locks) && found.is_some() {
+                return found;
+            } else if does(event, locks) {
+                found = Some(at);
+            }
+        }
+        at = at.saturating_add(1);
+    }
+    found
 }
 
 // Who had locked what another goroutine unlocked, if another did.
@@ -217,7 +284,11 @@ pub(crate) fn put_once_rule<A: Allocator + Copy, B: Allocator>(
         Op::OnceBegin(once) => {
             put_function(out, trace, once)?;
             put(out, &[" has begun before"])?;
-            put_since(out, trace, at, Deed::Begins(once), " began it")
+            put_since(out, trace, at, Deed::Begins(once), " began it")?;
+            put(
+                out,
+                &["; a Do that runs nothing is a oncedone, and another once has another name"],
+            )
         }
         Op::OnceDone(once) => {
             put_function(out, trace, once)?;
@@ -225,47 +296,79 @@ pub(crate) fn put_once_rule<A: Allocator + Copy, B: Allocator>(
         }
         Op::OnceEnd(once) => {
             put_innermost(out, trace, at, event.who)?;
-            put_beginner(out, trace, at, event.who, once)
+            put_beginner(out, trace, at, once)
         }
-        _ => put_innermost(out, trace, at, event.who),
+        _ => {
+            put_innermost(out, trace, at, event.who)?;
+            put(out, &["; its onceend may be missing before this one"])
+        }
     }
 }
 
-// Of a function that the goroutine ends but isn't in: who began it, or which event ended it before.
+// Of a function that the goroutine ends but isn't in, or isn't in last: which event began or ended it, and what may be missing.
 fn put_beginner<A: Allocator, B: Allocator>(
     out: &mut Vec<u8, A>,
     trace: &Trace<B>,
     at: u32,
-    who: u32,
     once: u32,
 ) -> Result<(), AllocError> {
-    let ended = last_before(trace, at, Deed::Ends(once)).is_some();
-    match last_before(trace, at, Deed::Begins(once)) {
-        Some(begin) => if ended {
-            put(out, &["; "])?;
-            put_function(out, trace, once)?;
-            put(out, &[" has ended"])?;
-            put_since(out, trace, at, Deed::Ends(once), " ended it")
-        } else if who_at(trace, begin) == goroutine(trace, who) {
-            Ok(())
-        } else {
-            put(out, &["; "])?;
-            put_function(out, trace, once)?;
-            put(
-                out,
-                &[
-                    " was begun by ",
-                    who_at(trace, begin),
-                    ", which alone ends it,",
-                ],
-            )?;
-            put_at(out, trace, " in ", begin, "")
-        },
-        None => {
-            put(out, &["; no event before this one begins "])?;
-            put_function(out, trace, once)
-        }
+    let who = who_at(trace, at);
+    let Some(begin) = last_before(trace, at, Deed::Begins(once)) else {
+        return put_unbegun(out, trace, at, once);
+    };
+    put(out, &["; "])?;
+    if last_before(trace, at, Deed::Ends(once)).is_some() {
+        put_function(out, trace, once)?;
+        put(out, &[" has ended"])?;
+        put_since(out, trace, at, Deed::Ends(once), " ended it")?;
+        return put_another(out, "; this line may be there twice", who);
     }
+    if who_at(trace, begin) == who {
+        return put(
+            out,
+            &["the inner one ends first: its onceend may be missing"],
+        );
+    }
+    put_function(out, trace, once)?;
+    put(out, &[" was begun by ", who_at(trace, begin)])?;
+    put_at(out, trace, ", which alone ends it, in ", begin, "")?;
+    put_another(out, ": one of the two goroutines may be wrong", who)
+}
+
+// Of a function that no event begins before: which one does later, or that one may be missing.
+fn put_unbegun<A: Allocator, B: Allocator>(
+    out: &mut Vec<u8, A>,
+    trace: &Trace<B>,
+    at: u32,
+    once: u32,
+) -> Result<(), AllocError> {
+    put(out, &["; no event before this one begins "])?;
+    put_function(out, trace, once)?;
+    let begins = Deed::Begins(once);
+    if first_after(trace, at, begins).is_some() {
+        return put_later(out, trace, at, begins, " does", "");
+    }
+    put(
+        out,
+        &[
+            "; a oncebegin of it by ",
+            who_at(trace, at),
+            " may be missing",
+        ],
+    )
+}
+
+// What else may be missing where a goroutine ends what it isn't in.
+fn put_another<A: Allocator>(
+    out: &mut Vec<u8, A>,
+    first: &str,
+    who: &str,
+) -> Result<(), AllocError> {
+    put(out, &[first])?;
+    put(
+        out,
+        &[", or a oncebegin by ", who, " of another once is missing"],
+    )
 }
 
 // By which event the function began, or that it didn't, and which event ends it only later.
@@ -284,7 +387,8 @@ fn put_not_done<A: Allocator, B: Allocator>(
         }
         None => {
             put(out, &[" hasn't begun: no event before this one begins it"])?;
-            put_later(out, trace, at, Deed::Begins(once), " does", "")
+            let missing = "; a oncebegin and an onceend may be missing";
+            put_later(out, trace, at, Deed::Begins(once), " does", missing)
         }
     }
 }

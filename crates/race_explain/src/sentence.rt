@@ -1,5 +1,6 @@
 //! What is said of a line as a whole that is at fault.
 
+use crate::count::is_whole;
 use crate::line::put_quoted;
 use crate::near::{Guess, is_same};
 use crate::put::{put, put_number, put_number_in};
@@ -7,19 +8,25 @@ use crate::word::bad_column;
 use race_text::{cut_at, word_named};
 use std::alloc::{AllocError, Allocator};
 
-/// What is said of a last line that no newline ends.
-pub(crate) fn put_unended<A: Allocator>(out: &mut Vec<u8, A>, line: u64) -> Result<(), AllocError> {
+/// What is said of a last line that no newline ends, the one of this number.
+pub(crate) fn put_unended<A: Allocator>(
+    out: &mut Vec<u8, A>,
+    line: &[u8],
+    number: u64,
+) -> Result<(), AllocError> {
     put(
         out,
-        &[
-            "no newline ends the last line: the text may be cut off within it; if the line is whole, write a newline too",
-        ],
+        &[if number == 1 || is_whole(line) {
+            "no newline ends the last line: the text may be cut off within it; if the line is whole, write a newline too"
+        } else {
+            "no newline ends the last line, and it has too few words: it seems to be cut off"
+        }],
     )?;
-    if line > 1 {
+    if number > 1 {
         put_number_in(
             out,
             "; the lines before it: head -n ",
-            line - 1,
+            number - 1,
             " < FILE | gorace check",
         )?;
     }
@@ -45,7 +52,7 @@ pub(crate) fn put_bad_byte<A: Allocator>(
     put_number(out, u64::from(byte))?;
     let what = match byte {
         0 => ", a zero byte",
-        9 => ", a tab",
+        9 => ", a tab, where a blank is wanted: tr '\\t' ' ' < FILE | gorace explain",
         13 => if column + 1 == line.len() {
             ", a carriage return, as Windows ends lines, though no line before has one: tr -d '\\r' < FILE | gorace explain"
         } else {
@@ -70,35 +77,65 @@ pub(crate) fn put_unknown_word<A: Allocator>(
         return put(
             out,
             &[if rest.is_none() {
-                "the line is empty, and no line of a trace is"
+                "the line is empty, and no line of a trace is: leave it out"
             } else {
                 "the line begins with a blank, and no line of a trace does"
             }],
         );
     }
     if word[0] == b'#' || word[0] == b'/' {
-        return put(out, &["a trace has no comments"]);
+        return put(out, &["a trace has no comments: leave the line out"]);
     }
     put_quoted(out, word)?;
+    if let Some(text) = foreign(word) {
+        return put(out, &[text]);
+    }
+    put(out, &[" begins no line of a trace: "])?;
+    if rest.is_none() && is_cut(word) {
+        return put(out, &["the line seems to be cut off"]);
+    }
+    if let Some(second) = later_word(rest) {
+        put(out, &["its first word may be "])?;
+        return put_quoted(out, second);
+    }
+    put_guess(out, word)
+}
+
+// The second word, if a line may begin with it.
+fn later_word(rest: Option<&[u8]>) -> Option<&[u8]> {
+    let second = cut_at(rest?, b' ').0;
+    word_named(second)?;
+    Some(second)
+}
+
+// What is said of a word that begins a line of another version, or of another text.
+fn foreign(word: &[u8]) -> Option<&'static str> {
     if word_named(word).is_some() {
-        return put(out, &[" is a word of version 2: its header is gotrace 2"]);
+        return Some(" is a word of version 2: line 1 has to be gotrace 2");
     }
     if word == b"gotrace".as_slice() {
-        return put(
-            out,
-            &[" begins a header, and a trace has one alone: are these two traces?"],
+        return Some(
+            " begins a header, and a trace has one alone: if these are two traces, cut them here",
         );
     }
     if word == b"select".as_slice() {
-        return put(
-            out,
-            &[" is no event: write what the select did, a send, recv, meet, recvclosed or default"],
+        return Some(
+            " is no event: write what the select did, a send, recv, meet, recvclosed or default",
         );
     }
     if word == b"body".as_slice() || word == b"do".as_slice() || word == b"enddo".as_slice() {
-        return put(out, &[" is a word of a program, not of a trace"]);
+        return Some(" is a word of a program, not of a trace");
     }
-    put(out, &[" begins no line of a trace: "])?;
+    None
+}
+
+// Whether a known word begins so.
+fn is_cut(word: &[u8]) -> bool {
+    KNOWN.iter().any(|known| known.as_bytes().starts_with(word))
+}
+
+// What a word may mean that is in no text.
+fn put_guess<A: Allocator>(out: &mut Vec<u8, A>, word: &[u8]) -> Result<(), AllocError> {
     if WORDLESS.iter().any(|known| is_same(word, *known)) {
         return put(out, &[NO_WORD]);
     }
@@ -108,8 +145,13 @@ pub(crate) fn put_unknown_word<A: Allocator>(
     }
 }
 
-// The one word of a trace that is nearly this one.
+// The one word of a trace that means the same as this one, or is nearly this one.
 fn meant(word: &[u8]) -> Option<&'static str> {
+    for (other, known) in &OTHERS {
+        if is_same(word, other) {
+            return Some(known);
+        }
+    }
     let mut guess = Guess::new();
     for known in &KNOWN {
         guess = guess.look_at(word, *known);
@@ -148,6 +190,24 @@ const KNOWN: [&str; 27] = [
     "fault",
 ];
 
+// What a recorder may call what a trace has a word for.
+const OTHERS: [(&str, &str); 14] = [
+    ("acquire", "lock"),
+    ("begin", "oncebegin"),
+    ("channel", "chan"),
+    ("panic", "fault"),
+    ("r", "read"),
+    ("receive", "recv"),
+    ("release", "unlock"),
+    ("return", "exit"),
+    ("rwlock", "rwmutex"),
+    ("spawn", "go"),
+    ("start", "go"),
+    ("trylockfail", "tryfail"),
+    ("variable", "var"),
+    ("w", "write"),
+];
+
 // What a recorder may call operations that a trace has no word for.
 const WORDLESS: [&str; 20] = [
     "add",
@@ -176,4 +236,4 @@ const NO_WORD: &str =
     "WaitGroups, atomics, Conds and the like have no word of their own; what to write for them: docs/RECORDING.md, \"What has no word\"";
 
 const WORDS: &str =
-    "a declaration begins with goroutine, var, chan, mutex, rwmutex or once, an event with go, exit, read, write, send, recv, meet, recvclosed, close, default, lock, unlock, rlock, runlock, oncebegin, onceend, oncedone or fault, in version 2 with trylock, tryrlock or tryfail too";
+    "declarations begin with goroutine, var, chan, mutex, rwmutex, once, events with go, exit, read, write, send, recv, meet, recvclosed, close, default, lock, unlock, rlock, runlock, oncebegin, onceend, oncedone, fault, in version 2 trylock, tryrlock, tryfail too";

@@ -2,10 +2,10 @@
 
 use crate::clean::note;
 use crate::holding::{Holding, held_before, put_holders};
-use crate::names::goroutine;
-use crate::past::{Deed, does, is_locked};
+use crate::names::{event_at, goroutine, name_of, who_at};
+use crate::past::{Deed, does, first_after, is_locked};
 use crate::put::{put, put_at};
-use race_records::{Kind, Trace};
+use race_records::{Kind, Named, Trace};
 use std::alloc::{AllocError, Allocator};
 
 /// Puts who holds the lock that the goroutine locks, and which event unlocks it only later or whose unlock may be missing.
@@ -82,4 +82,60 @@ fn unlocked_after<A: Allocator, B: Allocator>(
         at = at.saturating_add(1);
     }
     Ok(None)
+}
+
+/// Puts which goroutine unlocked a lock that the first of two accesses had, where it is another, and the second access had it too.
+/// Two accesses under one lock race only then.
+pub(crate) fn put_unlocked_by_another<A: Allocator + Copy, B: Allocator>(
+    out: &mut Vec<u8, A>,
+    trace: &Trace<B>,
+    first: u32,
+    second: u32,
+) -> Result<(), AllocError> {
+    let alloc = *out.allocator();
+    let (Some(event), Some(other)) = (event_at(trace, first), event_at(trace, second)) else {
+        return Ok(());
+    };
+    let later = held_before(alloc, trace, second)?;
+    for holding in held_before(alloc, trace, first)?.as_slice() {
+        if holding.who == event.who && shares(later.as_slice(), other.who, *holding) {
+            if let Some(unlock) = unlocked_next(trace, first, *holding) {
+                put_unlocker(out, trace, *holding, unlock)?;
+            }
+        }
+    }
+    Ok(())
+}
+
+// Whether the goroutine has the lock too, and not both for reading.
+fn shares(held: &[Holding], who: u32, first: Holding) -> bool {
+    held.iter().any(|holding| {
+        holding.who == who && holding.lock == first.lock && !(holding.reading && first.reading)
+    })
+}
+
+// The next event that unlocks what is held.
+fn unlocked_next<A: Allocator>(trace: &Trace<A>, after: u32, holding: Holding) -> Option<u32> {
+    let unlocks = if holding.reading {
+        Deed::ReadUnlocks(holding.lock)
+    } else {
+        Deed::Unlocks(holding.lock)
+    };
+    first_after(trace, after, unlocks)
+}
+
+fn put_unlocker<A: Allocator, B: Allocator>(
+    out: &mut Vec<u8, A>,
+    trace: &Trace<B>,
+    holding: Holding,
+    unlock: u32,
+) -> Result<(), AllocError> {
+    let (who, other) = (goroutine(trace, holding.who), who_at(trace, unlock));
+    if who == other {
+        return Ok(());
+    }
+    put(out, &[name_of(trace, Named::Lock(holding.lock))])?;
+    put(out, &[" was locked by ", who, ", but unlocked by ", other])?;
+    put_at(out, trace, " in ", unlock, ", which orders nothing that ")?;
+    put(out, &[who, " did\n"])
 }

@@ -6,3 +6,4 @@ pub mod RefusalLemmas
 pub mod PositionLemmas
 pub mod UnracedLemmas
 pub mod ShownLemmas
+pub mod ExampleLemmas

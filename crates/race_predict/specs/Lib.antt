@@ -1,3 +1,4 @@
 pub mod Fronts
 pub mod Attempts
 pub mod Certified
+pub mod Examples

@@ -5,6 +5,7 @@
 
 mod attempt;
 mod certify;
+pub mod examples;
 mod fault;
 mod parts;
 mod positions;

@@ -27,12 +27,12 @@ func (g *G) sendOut(s *Site) {
 }
 
 // takeIn has the lock: g has read, or was answered. Besides what was written, what the
-// goroutines of the standard library did so far comes before, since a handler's return
-// isn't seen.
+// goroutines of the standard library did so far comes before, since nothing says when their
+// work is seen, unless they are in a handler of HTTP that hasn't begun to answer.
 func (g *G) takeIn(s *Site) {
 	g.takeSent(s)
 	for h := range adopted {
-		if h != g && (atomic.LoadUint32(&h.didMore) != 0 || h.epoch != h.joined) {
+		if h != g && !h.silent && (atomic.LoadUint32(&h.didMore) != 0 || h.epoch != h.joined) {
 			atomic.StoreUint32(&h.didMore, 0)
 			g.acquire(h.release(s), s)
 			h.joined = h.epoch
@@ -63,6 +63,40 @@ func Out[T any](w T, s *Site) T {
 		mu.Unlock()
 	}
 	return w
+}
+
+// Handler is called where a handler of HTTP begins, and what it returns where that ends.
+func Handler(s *Site) func() {
+	if off || !current(s).foreign {
+		return func() {}
+	}
+	g := current(s)
+	if g.handles == 0 {
+		g.keepSilent(true)
+	}
+	g.handles++
+	return func() {
+		g := current(s)
+		g.keepSilent(false)
+		g.handles--
+	}
+}
+
+// Answers is a ResponseWriter that is used: from here on the client may have been answered.
+func Answers[W any](w W, s *Site) W {
+	if !off {
+		current(s).keepSilent(false)
+	}
+	return w
+}
+
+func (g *G) keepSilent(is bool) {
+	if g.silent == is {
+		return
+	}
+	begin()
+	g.silent = is
+	mu.Unlock()
 }
 
 // cross is what stands round a call that may wait for other goroutines.

@@ -38,6 +38,8 @@ type G struct {
 	alone               [1]communication
 
 	foreign bool   // code without the recorder started it
+	handles uint32 // how many handlers of HTTP it is in
+	silent  bool   // these haven't begun to answer
 	reading bool   // it was about to read a file or a connection
 	lastOut uint32 // the order of its last write to a file or a connection
 	taken   uint32 // the newest order of sentOut that it is behind

@@ -21,11 +21,7 @@ func (r *rewriter) value(e ast.Expr) {
 	}
 	switch e := e.(type) {
 	case *ast.Ident:
-		if f, ok := r.info.Uses[e].(*types.Func); ok {
-			r.functionValue(e, f)
-		} else if r.isRecorded(e) {
-			r.read(e)
-		}
+		r.identifier(e)
 	case *ast.ParenExpr:
 		r.value(e.X)
 	case *ast.SelectorExpr:
@@ -48,10 +44,29 @@ func (r *rewriter) value(e ast.Expr) {
 	case *ast.FuncLit:
 		outer, postponed := r.within, r.postponed
 		r.within, r.postponed = e, false
+		r.handler(e, e.Type, e.Body)
 		r.block(e.Body)
 		r.within, r.postponed = outer, postponed
 	case *ast.TypeAssertExpr:
 		r.value(e.X)
+	}
+}
+
+func (r *rewriter) identifier(e *ast.Ident) {
+	f, isFunction := r.info.Uses[e].(*types.Func)
+	switch {
+	case isFunction:
+		r.functionValue(e, f)
+	case isResponseWriter(r.typeOf(e)):
+		r.wrap(e, "gorec.Answers(", func() { r.variable(e) }, ", "+r.site(e, "")+")")
+	default:
+		r.variable(e)
+	}
+}
+
+func (r *rewriter) variable(e *ast.Ident) {
+	if r.isRecorded(e) {
+		r.read(e)
 	}
 }
 

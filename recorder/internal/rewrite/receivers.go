@@ -18,7 +18,9 @@ func (r *rewriter) receiver(e *ast.SelectorExpr) {
 func (r *rewriter) plainReceiver(e *ast.SelectorExpr, m *types.Func) {
 	promoted := len(r.info.Selections[e].Index()) > 1
 	pointer := isPointer(r.typeOf(e.X))
-	switch {
+	switch w, _ := e.X.(*ast.Ident); {
+	case w != nil && isResponseWriter(r.typeOf(w)) && m.Name() == "Header": // which answers nothing yet
+		r.variable(w)
 	case isInterface(r.typeOf(e.X)):
 		r.value(e.X)
 	case promoted && r.embedded(e, m):

@@ -110,6 +110,7 @@ func (r *rewriter) function(d *ast.FuncDecl) {
 	if r.isTest(d) {
 		r.insert(d.Body.Lbrace+1, "defer gorec.Test("+r.site(d, "test")+")();")
 	}
+	r.handler(d, d.Type, d.Body)
 	if r.p.Name == "main" && d.Recv == nil && d.Name.Name == "main" {
 		r.replace(d.Name.Pos(), d.Name.End(), "gorec_main")
 		r.mainSite = r.site(d, "")
@@ -117,6 +118,18 @@ func (r *rewriter) function(d *ast.FuncDecl) {
 	r.within = d
 	r.block(d.Body)
 }
+
+// handler has the recorder know when a handler of HTTP begins and ends.
+func (r *rewriter) handler(f ast.Node, t *ast.FuncType, body *ast.BlockStmt) {
+	params := t.Params.List
+	if body != nil && t.Results == nil && len(params) == 2 && len(params[0].Names) < 2 && len(params[1].Names) < 2 &&
+		isResponseWriter(r.typeOf(params[0].Type)) && r.typeOf(params[1].Type).String() == "*net/http.Request" {
+		r.insert(body.Lbrace+1, "defer gorec.Handler("+r.site(f, "")+")();")
+	}
+}
+
+// isResponseWriter reports whether a server's answer is written to values of the type.
+func isResponseWriter(t types.Type) bool { return t != nil && t.String() == "net/http.ResponseWriter" }
 
 func isGeneric(d *ast.FuncDecl) bool {
 	if d.Type.TypeParams != nil {

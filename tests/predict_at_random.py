@@ -28,7 +28,7 @@ SMALL = 12
 LONG = 40
 WAYS = {"recorded": [], "turned": ["--turned"]}
 # How many in a hundred have to be found, where enough exist: some fewer than are found of many.
-WANTED = {("recorded", "in order"): 90, ("turned", "exist"): 95}
+WANTED = {("recorded", "in order"): 90, ("turned", "exist"): 99}
 ENOUGH = 40
 PREDICTED = re.compile(r"predicted race on (\w+): .* \(event (\d+)\), .* \(event (\d+)\)\n")
 NO_RACE = "no such race\n", 14
@@ -62,11 +62,8 @@ def look_at_certificate(gorace, trace, var, pair, line):
     order = [trace.events.index(event) for event in certificate.events[:-2]]
     if "--turned" not in line and order != sorted(order):
         raise Wrong(line, trace.text, text, "the recorded order")
+    # An earlier pair on the variable may race there, too, and then check reports that one.
     gorace.tells(certificate.told(), text.encode(), "check")
-    count = len(certificate.events)
-    # In another order an earlier pair on the variable may race, too, and then check reports that one.
-    if "--turned" not in line and certificate.reported()[var] != (count - 2, count - 1):
-        raise Wrong(line, trace.text, text, f"no race on {var} before those two")
 
 
 def look_at(gorace, trace, exist, way, chance):

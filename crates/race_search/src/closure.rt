@@ -32,6 +32,8 @@ pub(crate) struct Closure<A: Allocator = Global> {
     links: u32,
     /// Whether sections and messages keep the recorded order.
     pub(crate) keeps_order: bool,
+    /// Whether a try fails by the recorded section, and a buffer is full by the recorded messages.
+    pub(crate) keeps_blockers: bool,
     /// How many steps were gone through.
     pub(crate) taken: u64,
 }
@@ -56,6 +58,7 @@ impl<A: Allocator + Copy> Closure<A> {
             chans,
             links,
             keeps_order: true,
+            keeps_blockers: true,
             taken: 0,
         })
     }
@@ -192,6 +195,7 @@ impl<A: Allocator + Copy> Closure<A> {
     fn visit(&mut self, steps: &Steps<A>, i: u32, step: Step) -> Result<(), AllocError> {
         match step.ask {
             Ask::Part(part) => self.ask(part),
+            Ask::Section(part) => self.visit_section(part),
             Ask::Lock(lock, end) => self.visit_lock(steps, i, step.at, lock, end),
             Ask::ReadLock(lock, end) => self.visit_read_lock(steps, i, step.at, lock, end),
             Ask::Send(chan, number, end) => self.visit_send(steps, i, chan, number, end),
@@ -340,7 +344,17 @@ impl<A: Allocator + Copy> Closure<A> {
         self.begin_section(steps, lock, at)
     }
 
+    fn visit_section(&mut self, begin: Part) -> Result<(), AllocError> {
+        if self.keeps_blockers {
+            self.ask(begin)?;
+        }
+        Ok(())
+    }
+
     fn visit_sends(&mut self, steps: &Steps<A>, first: u32, count: u32) -> Result<(), AllocError> {
+        if !self.keeps_blockers {
+            return Ok(());
+        }
         let mut i = first;
         for _ in 0..count {
             self.ask(steps.step(i).own)?;

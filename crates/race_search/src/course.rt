@@ -132,11 +132,12 @@ impl<A: Allocator + Copy> Course<A> {
         }
     }
 
-    /// The event comes.
-    pub(crate) fn take<B: Allocator>(&mut self, trace: &Trace<B>, at: u32) {
+    /// The event comes. Returns what it takes the place of: the variable's last write, or the channel's newest or oldest send.
+    pub(crate) fn take<B: Allocator>(&mut self, trace: &Trace<B>, at: u32) -> u32 {
         if at as usize >= trace.len() {
-            return;
+            return NONE;
         }
+        let old = self.old(trace, at);
         match &trace.event(at as usize).op {
             Op::Write(var, _) => set_row(&mut self.written, *var, at),
             Op::Send(chan, _) => self.send(*chan, at),
@@ -153,6 +154,47 @@ impl<A: Allocator + Copy> Course<A> {
             Op::TryRLock(lock) => raise(&mut self.readers, *lock),
             Op::Unlock(lock) => lower(&mut self.held, *lock),
             Op::RUnlock(lock) => lower(&mut self.readers, *lock),
+            _ => {}
+        }
+        old
+    }
+
+    // What the event would take the place of.
+    fn old<B: Allocator>(&self, trace: &Trace<B>, at: u32) -> u32 {
+        if at as usize >= trace.len() {
+            return NONE;
+        }
+        match &trace.event(at as usize).op {
+            Op::Write(var, _) => row(&self.written, *var),
+            Op::Send(chan, _) => row(&self.newest, *chan),
+            Op::Recv(chan, _) => row(&self.oldest, *chan),
+            _ => NONE,
+        }
+    }
+
+    /// The last event that came goes, and what it took the place of comes back.
+    pub(crate) fn take_back<B: Allocator>(&mut self, trace: &Trace<B>, at: u32, old: u32) {
+        if at as usize >= trace.len() {
+            return;
+        }
+        match &trace.event(at as usize).op {
+            Op::Write(var, _) => set_row(&mut self.written, *var, old),
+            Op::Send(chan, _) => {
+                set_row(&mut self.newest, *chan, old);
+                lower(&mut self.count, *chan);
+            }
+            Op::Recv(chan, _) => {
+                set_row(&mut self.oldest, *chan, old);
+                raise(&mut self.count, *chan);
+            }
+            Op::Close(chan) => set_row(&mut self.closed, *chan, 0),
+            Op::OnceEnd(once) => set_row(&mut self.ended, *once, 0),
+            Op::Lock(lock) => lower(&mut self.held, *lock),
+            Op::TryLock(lock) => lower(&mut self.held, *lock),
+            Op::RLock(lock) => lower(&mut self.readers, *lock),
+            Op::TryRLock(lock) => lower(&mut self.readers, *lock),
+            Op::Unlock(lock) => raise(&mut self.held, *lock),
+            Op::RUnlock(lock) => raise(&mut self.readers, *lock),
             _ => {}
         }
     }

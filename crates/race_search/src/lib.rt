@@ -19,6 +19,7 @@ mod search;
 mod shared;
 mod steps;
 mod turned;
+mod walk;
 mod wants;
 
 pub use predictions::{Predictions, predict, predict_on};

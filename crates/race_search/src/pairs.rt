@@ -15,6 +15,16 @@ const ENDED: u32 = NONE - 1;
 /// How many pairs of two groups are tried in another order.
 const TURNS: u32 = 24;
 
+/// How many steps walks may take in all, of those that are left.
+const WALKS: u64 = 65_536;
+
+// The ways in which a pair's run is found.
+const RECORDED: u32 = 0;
+
+pub(crate) const TURNED: u32 = 1;
+
+pub(crate) const WALKED: u32 = 2;
+
 /// The first accesses of one group for the second ones of another: which of them may still come, and the next such of the other group. In
 /// another order, the segment of the last second access and how many pairs were tried.
 #[derive(Clone, Copy)]
@@ -46,8 +56,8 @@ pub(crate) struct Pairs<A: Allocator = Global> {
     /// Of each variable the pair.
     pub(crate) first: Vec<u32, A>,
     pub(crate) second: Vec<u32, A>,
-    /// Of each variable whether the run has another order, as 0 and 1.
-    pub(crate) is_turned: Vec<u32, A>,
+    /// Of each variable how the run was found.
+    pub(crate) way: Vec<u32, A>,
     /// Of each variable whether its search was cut off, as 0 and 1.
     pub(crate) is_cut: Vec<u32, A>,
     /// How many steps may be taken.
@@ -72,7 +82,7 @@ impl<A: Allocator + Copy> Pairs<A> {
             firsts: Vec::new(alloc),
             first: rows_of(alloc, vars, NONE)?,
             second: rows_of(alloc, vars, NONE)?,
-            is_turned: rows_of(alloc, vars, 0)?,
+            way: rows_of(alloc, vars, RECORDED)?,
             is_cut: rows_of(alloc, vars, 0)?,
             limit,
         })
@@ -140,12 +150,20 @@ impl<A: Allocator + Copy> Pairs<A> {
         if row(&self.lists, group) >= ENDED {
             return Ok(());
         }
-        if closure.taken.saturating_add(turned.taken) > self.limit {
-            set_row(&mut self.is_cut, var, 1);
+        if self.is_over(closure, turned, var) {
             return Ok(());
         }
         closure.ask_before(scene.steps, own)?;
         self.try_lists(scene, closure, turned, group, second)
+    }
+
+    // Whether all steps are taken. Then the variable's search is cut off, where it isn't by walks.
+    fn is_over(&mut self, closure: &Closure<A>, turned: &Turned<A>, var: u32) -> bool {
+        let is_over = steps_of(closure, turned) > self.limit;
+        if is_over && closure.keeps_blockers {
+            set_row(&mut self.is_cut, var, 1);
+        }
+        is_over
     }
 
     // The firsts for the group's accesses.
@@ -276,17 +294,17 @@ impl<A: Allocator + Copy> Pairs<A> {
         firsts.first = first;
         self.set_firsts(i, firsts);
         if found {
-            self.find(scene, first, second, 0);
+            self.find(scene, first, second, RECORDED);
         }
         Ok(found)
     }
 
     // The pair is found.
-    fn find(&mut self, scene: &Scene<A>, first: u32, second: u32, is_turned: u32) {
+    fn find(&mut self, scene: &Scene<A>, first: u32, second: u32, way: u32) {
         let (var, _) = access_at(scene.trace, second);
         set_row(&mut self.first, var, first);
         set_row(&mut self.second, var, second);
-        set_row(&mut self.is_turned, var, is_turned);
+        set_row(&mut self.way, var, way);
     }
 
     // The same in another order. Of the accesses between two events that are none, one is tried.
@@ -323,7 +341,7 @@ impl<A: Allocator + Copy> Pairs<A> {
         }
         self.set_firsts(i, firsts);
         if found {
-            self.find(scene, first, second, 1);
+            self.find(scene, first, second, way_of(closure));
         }
         Ok(found)
     }
@@ -337,10 +355,12 @@ impl<A: Allocator + Copy> Pairs<A> {
         first: u32,
         second: u32,
     ) -> Result<bool, AllocError> {
-        if closure.taken.saturating_add(turned.taken) > self.limit {
-            let (var, _) = access_at(scene.trace, second);
-            set_row(&mut self.is_cut, var, 1);
+        let (var, _) = access_at(scene.trace, second);
+        if self.is_over(closure, turned, var) {
             return Ok(false);
+        }
+        if !closure.keeps_blockers {
+            return walk(scene, closure, turned, first, second);
         }
         let (one, other) = (scene.part(first), scene.part(second));
         if !turned.complete(scene.steps, closure, one, other)? {
@@ -365,4 +385,81 @@ impl<A: Allocator + Copy> Pairs<A> {
         closure.keeps_order = true;
         Ok(())
     }
+
+    // Whether a variable is left of which no run is found.
+    fn is_any_left(&self) -> bool {
+        for (var, second) in self.second.iter().enumerate() {
+            if let Some(var) = u32::try_from(var).ok() {
+                if *second == NONE && self.accesses.first_of(var) != NONE {
+                    return true;
+                }
+            }
+        }
+        false
+    }
+
+    /// Searches those that are still left by walks.
+    pub(crate) fn search_walked(
+        &mut self,
+        scene: &Scene<A>,
+        closure: &mut Closure<A>,
+        turned: &mut Turned<A>,
+        end: u32,
+    ) -> Result<(), AllocError> {
+        let taken = steps_of(closure, turned);
+        if taken >= self.limit || !self.is_any_left() {
+            return Ok(());
+        }
+        turned.walk.limit = WALKS.min(self.limit.saturating_sub(taken));
+        self.limit = taken.saturating_add(turned.walk.limit);
+        turned.walk.prepare(scene.trace)?;
+        turned.course.clear();
+        closure.keeps_order = false;
+        closure.keeps_blockers = false;
+        for is_wide in [false, true] {
+            turned.walk.is_wide = is_wide;
+            self.search(scene, closure, turned, end)?;
+        }
+        closure.keeps_order = true;
+        closure.keeps_blockers = true;
+        Ok(())
+    }
+}
+
+// How runs are found where they needn't keep the order.
+fn way_of<A: Allocator + Copy>(closure: &Closure<A>) -> u32 {
+    if closure.keeps_blockers {
+        TURNED
+    } else {
+        WALKED
+    }
+}
+
+// How many steps were taken.
+fn steps_of<A: Allocator + Copy>(closure: &Closure<A>, turned: &Turned<A>) -> u64 {
+    closure
+        .taken
+        .saturating_add(turned.taken)
+        .saturating_add(turned.walk.taken)
+}
+
+// Whether a walk to the two finds a run.
+fn walk<A: Allocator + Copy>(
+    scene: &Scene<A>,
+    closure: &mut Closure<A>,
+    turned: &mut Turned<A>,
+    first: u32,
+    second: u32,
+) -> Result<bool, AllocError> {
+    let (one, other) = (scene.part(first), scene.part(second));
+    closure.begin();
+    closure.ask_before(scene.steps, one)?;
+    let mut found = false;
+    if !closure.has(one) && !closure.has(other) {
+        found = turned
+            .walk
+            .find(scene, closure, &mut turned.course, first, second)?;
+    }
+    closure.take_back();
+    Ok(found)
 }

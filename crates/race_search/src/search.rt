@@ -2,7 +2,7 @@
 
 use crate::candidates::candidates_of;
 use crate::closure::Closure;
-use crate::pairs::Pairs;
+use crate::pairs::{Pairs, TURNED, WALKED};
 use crate::proposal::{propose, propose_turned};
 use crate::rows::{NONE, row, rows_of, set_row};
 use crate::scene::Scene;
@@ -136,6 +136,7 @@ impl<A: Allocator + Copy> Search<A> {
         self.pairs.search(&scene, closure, orders, end)?;
         if turned {
             self.pairs.search_turned(&scene, closure, orders, end)?;
+            self.pairs.search_walked(&scene, closure, orders, end)?;
         }
         Ok(())
     }
@@ -158,7 +159,11 @@ impl<A: Allocator + Copy> Search<A> {
             steps: &self.steps,
         };
         let closure = &mut self.closure;
-        if row(&self.pairs.is_turned, var) == 1 {
+        if row(&self.pairs.way, var) == WALKED {
+            let order = self.turned.walk.order(alloc, var)?;
+            return Ok(Some(order));
+        }
+        if row(&self.pairs.way, var) == TURNED {
             return propose_turned(alloc, &scene, closure, &mut self.turned, first, second);
         }
         let order = propose(alloc, &scene, closure, first, second)?;

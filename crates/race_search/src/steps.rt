@@ -19,6 +19,8 @@ pub(crate) struct Part {
 pub(crate) enum Ask {
     /// These events.
     Part(Part),
+    /// The section that is open where a try fails; another one may do.
+    Section(Part),
     /// The end of the lock's earlier sections. Its own end.
     Lock(u32, Part),
     /// The end of the lock's earlier sections that aren't for reading alone. Its own end.
@@ -27,7 +29,7 @@ pub(crate) enum Ask {
     Send(u32, u32, Part),
     /// Of the channel's sends of a lower number the receives.
     Receives(u32, u32),
-    /// The send of this step and those that follow it on the channel, so many in all.
+    /// The send of this step and those that follow it on the channel, so many in all; others may do.
     Sends(u32, u32),
 }
 
@@ -166,6 +168,14 @@ impl<A: Allocator + Copy> Steps<A> {
         Ok(())
     }
 
+    // The try fails while the section is open.
+    fn push_section(&mut self, at: u32, own: Part, begin: Part) -> Result<(), AllocError> {
+        if begin.who != own.who && begin.end != NONE {
+            self.push(at, own, Ask::Section(begin))?;
+        }
+        Ok(())
+    }
+
     // The event wants the sends that fill the buffer before it, or the receives that empty it.
     fn push_default(&mut self, at: u32, own: Part, cases: &Cases) -> Result<(), AllocError> {
         for k in 0..cases.len() {
@@ -220,7 +230,11 @@ impl<A: Allocator + Copy> Steps<A> {
             self.push_part(at, own, other)?;
             return self.push_part(at, other, own);
         }
-        self.push_part(at, own, part_of(trace, wants.want(at)))?;
+        let want = part_of(trace, wants.want(at));
+        if matches!(event.op, Op::TryFail(_)) {
+            return self.push_section(at, own, want);
+        }
+        self.push_part(at, own, want)?;
         let mut end = part_of(trace, wants.end(at));
         if end.end == NONE {
             end.who = own.who;

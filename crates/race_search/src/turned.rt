@@ -7,6 +7,7 @@ use crate::rows::{NONE, fill, lower, push_row, raise, row, rows_of, set_row};
 use crate::scene::Scene;
 use crate::shared::access_of;
 use crate::steps::{Ask, Part, Steps};
+use crate::walk::Walk;
 use race_predict::partner;
 use race_records::{Event, Kind, Op, Trace};
 use std::alloc::{AllocError, Allocator, Global};
@@ -29,7 +30,8 @@ struct Open {
 /// the first that is open keeps the recorded order, and behind it the earliest event that can come comes.
 #[derive(Drop)]
 pub(crate) struct Turned<A: Allocator = Global> {
-    course: Course<A>,
+    pub(crate) course: Course<A>,
+    pub(crate) walk: Walk<A>,
     /// Of each event how many events of its goroutine up to it are no accesses.
     pub(crate) segment: Vec<u32, A>,
     /// The events, once an order is found.
@@ -65,6 +67,7 @@ impl<A: Allocator + Copy> Turned<A> {
         let sources = events.saturating_add(decls.count(Kind::Var) as usize);
         let mut turned = Turned {
             course: Course::new(alloc, trace, events)?,
+            walk: Walk::new(alloc, trace)?,
             segment: rows_of(alloc, events, 0)?,
             order: Vec::new(alloc),
             extra: Vec::new(alloc),

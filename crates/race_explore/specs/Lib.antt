@@ -5,3 +5,4 @@ pub mod Standing
 pub mod Ends
 pub mod Ways
 pub mod Walk
+pub mod Examples

@@ -1,6 +1,7 @@
 //! All runs of a program, one after another: which variables race in them, and how they end.
 #![tactic(auto)]
 
+pub mod examples;
 mod explored;
 mod fault;
 mod odometer;

@@ -1,5 +1,5 @@
 // Package instrument writes a copy of a program with the recorder's calls in it, and builds
-// it.
+// it: Packages copies the packages, and has rewrite.Package put the calls there.
 package instrument
 
 import (

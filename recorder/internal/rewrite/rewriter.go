@@ -1,6 +1,9 @@
 // Package rewrite puts calls of the recorder into a program's source. Calls are put round
 // expressions at their offsets in the text, so lines, comments and directives stay where
 // they are; each source text appears once, so nothing is evaluated twice.
+//
+// Package goes through a file by statement (statements.go) and value (expressions.go).
+// testdata/forms.txt has all forms, and forms.golden what they become.
 package rewrite
 
 import (

@@ -1,4 +1,6 @@
-// Package trace makes traces of logs.
+// Package trace makes traces of logs. Open and Records (log.go) read a log, inOrder (order.go)
+// orders its records, and NewSegments (segments.go) cuts them. For each segment write
+// (summary.go) calls named (lend.go), declare (declarations.go) and print (events.go).
 package trace
 
 import (

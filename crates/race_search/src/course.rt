@@ -132,12 +132,11 @@ impl<A: Allocator + Copy> Course<A> {
         }
     }
 
-    /// The event comes. Returns what it takes the place of: the variable's last write, or the channel's newest or oldest send.
-    pub(crate) fn take<B: Allocator>(&mut self, trace: &Trace<B>, at: u32) -> u32 {
+    /// The event comes.
+    pub(crate) fn take<B: Allocator>(&mut self, trace: &Trace<B>, at: u32) {
         if at as usize >= trace.len() {
-            return NONE;
+            return;
         }
-        let old = self.old(trace, at);
         match &trace.event(at as usize).op {
             Op::Write(var, _) => set_row(&mut self.written, *var, at),
             Op::Send(chan, _) => self.send(*chan, at),
@@ -156,11 +155,10 @@ impl<A: Allocator + Copy> Course<A> {
             Op::RUnlock(lock) => lower(&mut self.readers, *lock),
             _ => {}
         }
-        old
     }
 
-    // What the event would take the place of.
-    fn old<B: Allocator>(&self, trace: &Trace<B>, at: u32) -> u32 {
+    /// What the event would take the place of: the variable's last write, or the channel's newest or oldest send.
+    pub(crate) fn old<B: Allocator>(&self, trace: &Trace<B>, at: u32) -> u32 {
         if at as usize >= trace.len() {
             return NONE;
         }

@@ -173,8 +173,9 @@ impl<A: Allocator + Copy> Walk<A> {
         if at as usize >= scene.trace.len() {
             return Ok(());
         }
-        let old = course.take(scene.trace, at);
+        let old = course.old(scene.trace, at);
         let came = Came { at, old };
+        course.take(scene.trace, at);
         self.run.push(came)?;
         self.state = self.state.wrapping_add(sum_of(scene.trace, came));
         let event = scene.trace.event(at as usize);

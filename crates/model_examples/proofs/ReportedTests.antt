@@ -47,7 +47,8 @@ listed_at x (r ∷ races) is = elim (or_cases _ _ is) [
 ]
 
 -- the variables of two races rise
-pub two_rise : (r s : Race) → r.var < s.var → (k m : ℕ) (a b : Race) → k < m → slice_get (r ∷ s ∷ []) k ≡ Some a → slice_get (r ∷ s ∷ []) m ≡ Some b → a.var < b.var
+pub two_rise : (r s : Race) → r.var < s.var → (k m : ℕ) (a b : Race) → k < m
+    → slice_get (r ∷ s ∷ []) k ≡ Some a → slice_get (r ∷ s ∷ []) m ≡ Some b → a.var < b.var
 two_rise r s up k zero a b less ata atb = absurd (omega (arith, less))
 two_rise r s up zero (suc zero) a b less ata atb =
     let first : r ≡ a = cc in
@@ -148,7 +149,8 @@ module _ (caps : ℕ → ℕ) (events : List Event) where
   abbrev pub are_covered : List Race → Bool
   are_covered races = each_below (each_covered races) (length events)
 
-  pub every_from : (races : List Race) → IsTrue (are_covered races) → (x i j : ℕ) → IsRace caps events x i j → (k : ℕ) × (r : Race) × (slice_get races k ≡ Some r) × (r.var ≡ x)
+  pub every_from : (races : List Race) → IsTrue (are_covered races) → (x i j : ℕ) → IsRace caps events x i j
+      → (k : ℕ) × (r : Race) × (slice_get races k ≡ Some r) × (r.var ≡ x)
   every_from races is x i j race = elim (cases_order i j) [
     | inl same ↦ absurd (race.conflict.0 same)
     | inr (inl less) ↦ covered i j less race
@@ -181,6 +183,8 @@ module _ (caps : ℕ → ℕ) (events : List Event) where
   }
     where
       each : (k : ℕ) (t : Race) → slice_get (r ∷ s ∷ []) k ≡ Some t → IsReportedRace caps events t.var t.first t.second
-      each zero t at = let same : r ≡ t = cc in subst (λ (r : Race). IsReportedRace caps events r.var r.first r.second) same (reported_from r.var r.first r.second first)
-      each (suc zero) t at = let same : s ≡ t = cc in subst (λ (r : Race). IsReportedRace caps events r.var r.first r.second) same (reported_from s.var s.first s.second second)
+      each zero t at = let same : r ≡ t = cc in subst (λ (r : Race). IsReportedRace caps events r.var r.first r.second)
+          same (reported_from r.var r.first r.second first)
+      each (suc zero) t at = let same : s ≡ t = cc in subst (λ (r : Race). IsReportedRace caps events r.var r.first r.second)
+          same (reported_from s.var s.first s.second second)
       each (suc (suc k)) t at = cc

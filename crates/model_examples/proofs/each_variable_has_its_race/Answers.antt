@@ -32,4 +32,5 @@ returns-clause-turned c = λ caps is.
 pub returns-clause-one : goal.returns-clause-one
 unfolding count_races
 returns-clause-one c = λ caps is.
-    let same = verdict_unique caps on_y_then_on_x (Races (race_of x 3 4 ∷ race_of y 1 2 ∷ [])) (Races (race_on_x 3 4)) (verdict caps) is in absurd (omega (arith, ap count_races same))
+    let same = verdict_unique caps on_y_then_on_x (Races (race_of x 3 4 ∷ race_of y 1 2 ∷ [])) (Races (race_on_x 3 4)) (verdict caps) is in
+    absurd (omega (arith, ap count_races same))

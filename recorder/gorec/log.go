@@ -10,9 +10,10 @@
 // with a lock held. Accesses that repeat others and have no record are done without one
 // (repeats.go), and most reads of what several goroutines use (shadow.go).
 //
-// A call such as Read is in variables.go: accessed (exclusive.go) keeps the access, or writes its
-// record. What may order, such as Send (channels.go), is written by step or write (log.go).
-// openLog and put (windows.go) map the log and write into it; wire/record.go has a record's form.
+// Read (variables.go) comes by read (locations.go) to accessed (exclusive.go), which keeps the
+// access or writes its record. What may order, such as Send (channels.go) by sent
+// (communicate.go), is written by step or write (log.go). openLog (windows.go) maps the log, where
+// take finds room; wire/record.go has a record's form.
 package gorec
 
 import (

@@ -1,5 +1,6 @@
-// Package instrument writes a copy of a program with the recorder's calls in it, and builds
-// it: Packages copies the packages, and has rewrite.Package put the calls there.
+// Package instrument writes a copy of a program with the recorder's calls in it: Packages copies
+// what load.Packages found, and has rewrite.Package put the calls there, each with its site, a
+// numbered place of the source (internal/sites). Build builds the copy.
 package instrument
 
 import (

@@ -40,6 +40,7 @@ pub mod LineCount
 pub mod StreamLemmas
 mod StreamKnown
 pub mod AheadTaken
+pub mod LoneNames
 pub mod MarkLemmas
 pub mod CommonLemmas
 pub mod TextLaws

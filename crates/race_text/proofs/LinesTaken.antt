@@ -1,8 +1,8 @@
 -- What is told of bytes whose first lines were taken, by what is told of the next line.
-use Rattle.std.proofs.{Common.{◌≡◌, ℕ, List, [], ◌∷◌, ◌++◌, Option, Some, None, sym, ap, ◌∙◌}, lemmas.Option.none-some}
+use Rattle.std.proofs.{Common.{◌≡◌, ℕ, ◌+◌, List, [], ◌∷◌, ◌++◌, length, Option, Some, None, sym, ap, ◌∙◌}, lemmas.Option.none-some}
 use Rattle.std.specs.Borrow.{Bor}
 use Rattle.race_text.specs.{declared.cause.TextFault.TextFault, Words.{parts_of, parts_left}, Lines.Causes, Common.line_in}
-use Rattle.race_text.specs.{Grammar.{ForEachLines, Takes}, Fed.{IsUnended, TellsOfMemory, TakesNext, TellsOfNext}}
+use Rattle.race_text.specs.{Grammar.{ForEachLines, Takes, TellsOfFront}, Fed.{IsUnended, TellsOfMemory, TakesNext, TellsOfNext}}
 use Rattle.race_text.specs.Fed.{TakesBytes, TellsOfWhole}
 use Rattle.race_text.proofs.FedLemmas.{seam_line, seam_part, memory_told, line_told, line_owed, line_taken, none_ended}
 use Rattle.race_text.proofs.FedLemmas.{takes_all, still_taken}
@@ -39,6 +39,23 @@ module _ (causes : Causes) where
       owed = λ whole t.
           line_owed causes whole Mid left (takes_all causes Stood Mid bytes left whole taken t) (line_in left) tells.rest tells.ends told tells.is;
     }
+
+    -- a fault is told of what is left
+    pub left_told : (told : TextFault) → TellsOfWhole causes Mid left told → TellsOfWhole causes Stood bytes told
+    left_told told tells = record {
+      told = λ whole more t. tells.told whole more (taken whole more t);
+      owed = λ whole t. tells.owed whole (takes_all causes Stood Mid bytes left whole taken t);
+    }
+
+    -- the same of the line in front of it
+    pub front_told : (told : TextFault) → ForEachLines Mid (λ lines. told.line ≡ length lines + 1) → TellsOfFront causes Mid left told.cause
+        → TellsOfWhole causes Stood bytes told
+    front_told told number front =
+        next_told told (record { rest = front.rest; ends = front.ends; is = λ lines S. record { number = number lines S; least = front.least lines S } })
+
+    -- no line is taken of what is left
+    pub none_taken : ForEachLines Mid Stands → TakesBytes causes Stood bytes Stands left
+    none_taken stays whole more t = still_taken causes whole (left ++ more) Mid Stands stays (taken whole more t)
 
     -- no line is ended, and there is no memory for what is left
     pub kept_told : (told : TextFault) → TakesNext causes Mid left None Stands → ForEachLines Stands (TellsOfMemory told) → TellsOfWhole causes Stood bytes told

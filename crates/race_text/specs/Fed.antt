@@ -94,6 +94,12 @@ module _ (causes : Causes) where
   abbrev pub TakesBytes : (List (List ℕ) → Type 0) → List ℕ → (List (List ℕ) → Type 0) → List ℕ → Type 0
   TakesBytes Stood bytes Stands part = (whole more : List ℕ) → TakesSome Stood whole (bytes ++ more) → TakesSome Stands whole (part ++ more)
 
+  -- lines in front of the bytes are taken, whatever follows them, and these bytes are left
+  pub record TakesFront (Stood : List (List ℕ) → Type 0) (bytes : List ℕ) (Stands : List (List ℕ) → Type 0) (left : List ℕ) : Type 0 where
+    pub front : List ℕ
+    pub bytes_are : front ++ left ≡ bytes
+    pub taken : TakesBytes Stood front Stands []
+
   -- or a fault of them is told
   abbrev pub TellsOfBytes : (List (List ℕ) → Type 0) → List ℕ → TextFault → Type 0
   TellsOfBytes Stood bytes told = (whole more : List ℕ) → TakesSome Stood whole (bytes ++ more) → IsTold whole told

@@ -109,7 +109,7 @@ impl<G: Grammar, A: Allocator + Copy> Fed<G, A> {
 
 impl<G: Grammar, A: Allocator + Copy> Lines<G, A> {
     // Takes the lines that the piece ends, and keeps what is behind them.
-    pub(crate) fn take(&mut self, piece: &[u8]) -> Result<(), TextFault>
+    fn take(&mut self, piece: &[u8]) -> Result<(), TextFault>
         requires { (k : G.Known) × spec.IsBetween (G.stands_for k self.old.reader) self.old.part.items }
         ensures taken { MatchResult result
             (λ _. (k : G.Known) → spec.TakesBytes G.causes (G.stands_for k self.old.reader) (self.old.part.items ++ piece.now)
@@ -142,7 +142,7 @@ impl<G: Grammar, A: Allocator + Copy> Lines<G, A> {
     }
 
     // The same where no part of a line is left before. The lines are read where they lie.
-    pub(crate) fn take_whole(&mut self, bytes: &[u8]) -> Result<(), TextFault>
+    fn take_whole(&mut self, bytes: &[u8]) -> Result<(), TextFault>
         requires some { (k : G.Known) × StandsForSome (G.stands_for k self.old.reader) }
         requires none { self.old.part.items ≡ [] }
         ensures taken { MatchResult result
@@ -154,9 +154,10 @@ impl<G: Grammar, A: Allocator + Copy> Lines<G, A> {
     {
         let mut left = bytes;
         loop {
-            match take_next(&mut self.reader, left)? {
+            let rest = self.reader.take_commons(left)?;
+            match take_other(&mut self.reader, rest)? {
                 None => {
-                    self.keep(left)?;
+                    self.keep(rest)?;
                     return Ok(());
                 }
                 Some(others) => left = others,
@@ -195,30 +196,6 @@ impl<G: Grammar, A: Allocator + Copy> Lines<G, A> {
 }
 
 // Takes the line in front of the bytes, and tells what is behind it; nothing where no newline ends it.
-#[inline(always)]
-pub(crate) fn take_next<'a, G: Grammar>(
-    reader: &mut G,
-    bytes: &'a [u8],
-) -> Result<Option<&'a [u8]>, TextFault>
-    requires { (k : G.Known) × StandsForSome (G.stands_for k reader.old) }
-    ensures { MatchResult result
-        (λ rest. (k : G.Known) → spec.TakesNext G.causes (G.stands_for k reader.old) bytes.now rest (G.stands_for k reader.new))
-        (λ told. (k : G.Known) → spec.TellsOfNext G.causes (G.stands_for k reader.old) bytes.now told) }
-{
-    let number = reader.line();
-    match reader.take_common(bytes) {
-        Err(cause) => Err(TextFault {
-            line: number,
-            cause,
-        }),
-        Ok(taken) => match taken {
-            Some(rest) => Ok(Some(rest)),
-            None => take_other(reader, bytes),
-        },
-    }
-}
-
-// The same of any line.
 #[inline(never)]
 pub(crate) fn take_other<'a, G: Grammar>(
     reader: &mut G,

@@ -1,5 +1,5 @@
 //! A trace from its bytes, of which some lines were read ahead.
-ghost use Rattle.std.specs.Prelude.{◌≡◌, ◌≢◌, ◌≤◌, ◌++◌, [], length, drop, All, Some, None, IfOk, IfErr, OnOk, MatchResult};
+ghost use Rattle.std.specs.Prelude.{◌≡◌, ◌≢◌, ◌≤◌, ◌++◌, [], length, take, drop, All, Some, None, IfOk, IfErr, OnOk, MatchResult};
 ghost use Rattle.std.specs.Prelude.{Vec};
 ghost use Rattle.race_text.specs.{Ahead.{AreKnownAhead, IsKnownAhead}, Fault.trace_causes, Grammar.StandsForSome};
 ghost use Rattle.race_text.specs.{Owed.HidesNone, Stream.{Known, StandsFor}};
@@ -12,20 +12,28 @@ use crate::stream::EventStream;
 use std::alloc::Allocator;
 
 impl<A: Allocator + Copy> Fed<EventStream<A>, A> {
-    /// Takes the next piece of the text as `feed` does, where lines of it were read ahead in several parts. Unless a line
-    /// goes on in the piece, these are taken as they were read.
-    pub fn feed_ahead(&mut self, piece: &[u8], ahead: &[Vec<LineAhead, A>]) -> Result<(), TextFault>
+    /// Takes those lines of the next piece of the text that were read ahead in several parts, and the lines between them, and
+    /// tells where the next line begins. `feed` takes the rest. Where a line goes on in the piece, this takes none.
+    pub fn feed_ahead(
+        &mut self,
+        piece: &[u8],
+        ahead: &[Vec<LineAhead, A>],
+    ) -> Result<usize, TextFault>
         requires { (k : Known) × spec.IsReady (StandsFor k) self.old × AreKnownAhead k piece.now ahead.now }
         ensures ready { (k : Known) → spec.IsReady (StandsFor k) self.old → spec.IsReady (StandsFor k) self.new }
-        ensures goes_on { (k : Known) → spec.ForEachFedTo trace_causes (StandsFor k) self.old
-            (λ fed. spec.IsFed trace_causes (StandsFor k) self.new (fed ++ piece.now)) }
-        ensures ok { IfOk result (λ _. (k : Known) → spec.ForEachFedTo trace_causes (StandsFor k) self.old
-            (λ fed. spec.ended_fault trace_causes (fed ++ piece.now) ≡ None)) }
+        ensures goes_on { MatchResult result
+            (λ at. (k : Known) → spec.ForEachFedTo trace_causes (StandsFor k) self.old
+            (λ fed. spec.IsFed trace_causes (StandsFor k) self.new (fed ++ take at piece.now)))
+            (λ _. (k : Known) → spec.ForEachFedTo trace_causes (StandsFor k) self.old
+            (λ fed. spec.IsFed trace_causes (StandsFor k) self.new (fed ++ piece.now))) }
+        ensures ok { IfOk result (λ at. (k : Known) → spec.ForEachFedTo trace_causes (StandsFor k) self.old
+            (λ fed. spec.ended_fault trace_causes (fed ++ take at piece.now) ≡ None)) }
         ensures err { IfErr result (λ told. (k : Known) → spec.ForEachFedTo trace_causes (StandsFor k) self.old
             (λ fed. spec.IsTold trace_causes (fed ++ piece.now) told)) }
         ensures owed { IfErr result (λ told. self.old.fault ≡ None → self.old.lines.part.items ≡ []
             → (k : Known) → spec.ForEachFedTo trace_causes (StandsFor k) self.old
             (λ fed. HidesNone told (spec.ended_fault trace_causes (fed ++ piece.now)))) }
+        ensures within { IfOk result (λ at. at ≤ length piece.now) }
         ensures fine { IfOk result (λ _. self.new.fault ≡ None) }
         ensures told { IfErr result (λ told. self.new.fault ≡ Some told) }
         ensures repeated { (told : TextFault) → self.old.fault ≡ Some told → result ≡ Err told }
@@ -33,7 +41,7 @@ impl<A: Allocator + Copy> Fed<EventStream<A>, A> {
         match self.fault {
             Some(fault) => Err(fault),
             None => match self.lines.take_ahead(piece, ahead) {
-                Ok(()) => Ok(()),
+                Ok(at) => Ok(at),
                 Err(fault) => {
                     self.fault = Some(fault);
                     Err(fault)
@@ -44,23 +52,25 @@ impl<A: Allocator + Copy> Fed<EventStream<A>, A> {
 }
 
 impl<A: Allocator + Copy> Lines<EventStream<A>, A> {
-    // Takes the lines that the piece ends, as `take` does.
-    fn take_ahead(&mut self, piece: &[u8], ahead: &[Vec<LineAhead, A>]) -> Result<(), TextFault>
+    // Takes lines of the piece up to the last one that was read ahead, and tells where the next one begins. The rest isn't
+    // taken here: each caller of `take_whole` in this impl would make a second instance of it and of `take_common`,
+    // which is inlined only where it has one caller.
+    fn take_ahead(&mut self, piece: &[u8], ahead: &[Vec<LineAhead, A>]) -> Result<usize, TextFault>
         requires { (k : Known) × spec.IsBetween (StandsFor k self.old.reader) self.old.part.items × AreKnownAhead k piece.now ahead.now }
         ensures taken { MatchResult result
-            (λ _. (k : Known) → spec.TakesBytes trace_causes (StandsFor k self.old.reader) (self.old.part.items ++ piece.now)
+            (λ at. (k : Known) → spec.TakesBytes trace_causes (StandsFor k self.old.reader) (self.old.part.items ++ take at piece.now)
             (StandsFor k self.new.reader) self.new.part.items)
             (λ told. (k : Known) → spec.TellsOfBytes trace_causes (StandsFor k self.old.reader) (self.old.part.items ++ piece.now) told) }
         ensures owed { IfErr result (λ told. self.old.part.items ≡ []
             → (k : Known) → spec.HidesNoneOf trace_causes (StandsFor k self.old.reader) piece.now told) }
         ensures some { OnOk result ((k : Known) → StandsForSome (StandsFor k self.old.reader) → StandsForSome (StandsFor k self.new.reader)) }
-        ensures unended { OnOk result (spec.IsUnended self.new.part.items) }
+        ensures same { self.new.part ≡ self.old.part }
+        ensures within { IfOk result (λ at. at ≤ length piece.now) }
     {
         if self.is_between_lines() {
-            let at = take_parts(&mut self.reader, piece, ahead)?;
-            self.take_whole(bytes_from(piece, at))
+            take_parts(&mut self.reader, piece, ahead)
         } else {
-            self.take(piece)
+            Ok(0)
         }
     }
 }
@@ -73,7 +83,7 @@ fn take_parts<A: Allocator + Copy>(
 ) -> Result<usize, TextFault>
     requires { (k : Known) × StandsForSome (StandsFor k reader.old) × AreKnownAhead k bytes.now ahead.now }
     ensures taken { MatchResult result
-        (λ at. (k : Known) → spec.TakesBytes trace_causes (StandsFor k reader.old) bytes.now (StandsFor k reader.new) (drop at bytes.now))
+        (λ at. (k : Known) → spec.TakesFront trace_causes (StandsFor k reader.old) bytes.now (StandsFor k reader.new) (drop at bytes.now))
         (λ told. (k : Known) → spec.TellsOfWhole trace_causes (StandsFor k reader.old) bytes.now told) }
     ensures some { OnOk result ((k : Known) → StandsForSome (StandsFor k reader.old) → StandsForSome (StandsFor k reader.new)) }
     ensures within { IfOk result (λ at. at ≤ length bytes.now) }
@@ -95,7 +105,7 @@ fn take_lines<A: Allocator + Copy>(
     requires known { (k : Known) × StandsForSome (StandsFor k reader.old) × All (IsKnownAhead k bytes.now) lines.now }
     requires within { from ≤ length bytes.now }
     ensures taken { MatchResult result
-        (λ at. (k : Known) → spec.TakesBytes trace_causes (StandsFor k reader.old) (drop from bytes.now) (StandsFor k reader.new) (drop at bytes.now))
+        (λ at. (k : Known) → spec.TakesFront trace_causes (StandsFor k reader.old) (drop from bytes.now) (StandsFor k reader.new) (drop at bytes.now))
         (λ told. (k : Known) → spec.TellsOfWhole trace_causes (StandsFor k reader.old) (drop from bytes.now) told) }
     ensures some { OnOk result ((k : Known) → StandsForSome (StandsFor k reader.old) → StandsForSome (StandsFor k reader.new)) }
     ensures within { IfOk result (λ at. at ≤ length bytes.now) }
@@ -118,7 +128,7 @@ fn take_one<A: Allocator + Copy>(
     requires known { (k : Known) × StandsForSome (StandsFor k reader.old) × IsKnownAhead k bytes.now line }
     requires within { from ≤ length bytes.now }
     ensures taken { MatchResult result
-        (λ at. (k : Known) → spec.TakesBytes trace_causes (StandsFor k reader.old) (drop from bytes.now) (StandsFor k reader.new) (drop at bytes.now))
+        (λ at. (k : Known) → spec.TakesFront trace_causes (StandsFor k reader.old) (drop from bytes.now) (StandsFor k reader.new) (drop at bytes.now))
         (λ told. (k : Known) → spec.TellsOfWhole trace_causes (StandsFor k reader.old) (drop from bytes.now) told) }
     ensures some { OnOk result ((k : Known) → StandsForSome (StandsFor k reader.old) → StandsForSome (StandsFor k reader.new)) }
     ensures within { IfOk result (λ at. at ≤ length bytes.now) }
@@ -143,14 +153,14 @@ fn take_until<A: Allocator + Copy>(
     requires some { (k : Known) × StandsForSome (StandsFor k reader.old) }
     requires within { from ≤ length bytes.now }
     ensures taken { MatchResult result
-        (λ at. (k : Known) → spec.TakesBytes trace_causes (StandsFor k reader.old) (drop from bytes.now) (StandsFor k reader.new) (drop at bytes.now))
+        (λ at. (k : Known) → spec.TakesFront trace_causes (StandsFor k reader.old) (drop from bytes.now) (StandsFor k reader.new) (drop at bytes.now))
         (λ told. (k : Known) → spec.TellsOfWhole trace_causes (StandsFor k reader.old) (drop from bytes.now) told) }
     ensures some { OnOk result ((k : Known) → StandsForSome (StandsFor k reader.old) → StandsForSome (StandsFor k reader.new)) }
     ensures within { IfOk result (λ at. at ≤ length bytes.now) }
 {
     let mut at = from;
     while at < until {
-        // Not by `take_next`: with a second caller `take_common` isn't inlined in the loop over lines.
+        // Not by `take_next`: that would be a second caller of `take_common`.
         match take_other(reader, bytes_from(bytes, at))? {
             None => return Ok(at),
             Some(rest) => at = bytes.len() - rest.len(),
@@ -168,7 +178,7 @@ fn take_this<A: Allocator + Copy>(
 ) -> Result<(), TextFault>
     requires { (k : Known) × StandsForSome (StandsFor k reader.old) × IsKnownAhead k bytes.now line }
     ensures taken { MatchResult result
-        (λ _. (k : Known) → spec.TakesBytes trace_causes (StandsFor k reader.old) (drop line.start bytes.now) (StandsFor k reader.new) (drop line.end bytes.now))
+        (λ _. (k : Known) → spec.TakesFront trace_causes (StandsFor k reader.old) (drop line.start bytes.now) (StandsFor k reader.new) (drop line.end bytes.now))
         (λ told. (k : Known) → spec.TellsOfWhole trace_causes (StandsFor k reader.old) (drop line.start bytes.now) told) }
     ensures some { OnOk result ((k : Known) → StandsForSome (StandsFor k reader.old) → StandsForSome (StandsFor k reader.new)) }
 {

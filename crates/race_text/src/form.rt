@@ -1,5 +1,6 @@
 //! The words that a line may begin with, which versions have them, and what each wants behind it.
-ghost use Rattle.std.specs.Prelude.{◌≡◌, ◌++◌, ◌∷◌, [], length, map, take, true, Some, IfSome};
+ghost use Rattle.std.specs.Prelude.{◌≡◌, ◌<◌, ◌≤◌, ◌++◌, ◌∷◌, ℕ, [], length, get_or, map, take, true, IsTrue, Some, IfSome};
+ghost use Rattle.std.specs.Int.{from_le_bytes, w32};
 ghost use Rattle.race_records.specs.Operands.{since};
 ghost use Rattle.race_text.specs.Form as spec;
 
@@ -127,11 +128,13 @@ pub(crate) fn common_word(word: &[u8]) -> Option<Word>
         [b's', ..] => op_keyword_spelled(word, b"send", OpKeyword::Send),
         [b'm', ..] => op_keyword_spelled(word, b"meet", OpKeyword::Meet),
         [b'o', ..] => op_keyword_spelled(word, b"oncedone", OpKeyword::OnceDone),
+        [b'v', ..] => decl_keyword_spelled(word, b"var", DeclKeyword::Var),
+        [b'g', ..] => decl_keyword_spelled(word, b"goroutine", DeclKeyword::Goroutine),
         _ => None,
     }
 }
 
-// The keyword of version 1, where the word is its spelling. A loop over bytes, as the spelling is constant and short.
+// The keyword of version 1, where the word is its spelling.
 #[inline(always)]
 fn op_keyword_spelled(word: &[u8], spelling: &[u8], op_keyword: OpKeyword) -> Option<Word>
     requires named { spec.word_named spelling.now ≡ Some (Word.Does op_keyword) }
@@ -139,15 +142,65 @@ fn op_keyword_spelled(word: &[u8], spelling: &[u8], op_keyword: OpKeyword) -> Op
     ensures named { IfSome result (λ found. spec.word_named word.now ≡ Some found) }
     ensures each { IfSome result (λ found. (version : Version) → spec.has_word version found ≡ true) }
 {
-    if word.len() != spelling.len() {
-        return None;
+    if is_spelled(word, spelling) {
+        Some(Word::Does(op_keyword))
+    } else {
+        None
     }
-    for i in 0..word.len() {
+}
+
+// The same of a keyword that declares.
+#[inline(always)]
+fn decl_keyword_spelled(word: &[u8], spelling: &[u8], decl_keyword: DeclKeyword) -> Option<Word>
+    requires { spec.word_named spelling.now ≡ Some (Word.Declares decl_keyword) }
+    ensures named { IfSome result (λ found. spec.word_named word.now ≡ Some found) }
+    ensures each { IfSome result (λ found. (version : Version) → spec.has_word version found ≡ true) }
+{
+    if is_spelled(word, spelling) {
+        Some(Word::Declares(decl_keyword))
+    } else {
+        None
+    }
+}
+
+// Whether the word is this spelling, which is constant. The first four bytes are compared as one number.
+#[inline(always)]
+fn is_spelled(word: &[u8], spelling: &[u8]) -> bool
+    ensures { IsTrue result → word.now ≡ spelling.now }
+{
+    if word.len() != spelling.len() {
+        return false;
+    }
+    if word.len() < 4 {
+        return is_same_from(word, spelling, 0);
+    }
+    four_bytes(word) == four_bytes(spelling) && is_same_from(word, spelling, 4)
+}
+
+// Whether the bytes from there on are the same. A loop, as the spelling is short.
+#[inline(always)]
+fn is_same_from(word: &[u8], spelling: &[u8], from: usize) -> bool
+    requires { length word.now ≡ length spelling.now }
+    ensures { IsTrue result → (k : ℕ) → from ≤ k → k < length word.now → get_or word.now k 0 ≡ get_or spelling.now k 0 }
+{
+    for i in from..word.len() {
         if word[i] != spelling[i] {
-            return None;
+            return false;
         }
     }
-    Some(Word::Does(op_keyword))
+    true
+}
+
+// The first four bytes.
+#[inline(always)]
+fn four_bytes(bytes: &[u8]) -> u32
+    requires { 4 ≤ length bytes.now }
+    ensures { result ≡ from_le_bytes w32 bytes.now }
+{
+    match bytes.first_chunk::<4>() {
+        Some(four) => u32::from_le_bytes(*four),
+        None => unreachable!(),
+    }
 }
 
 #[inline(never)]

@@ -1,15 +1,16 @@
 //! What tells one kind of text from another, where a text is read line by line.
 
-use crate::cause::TextCause;
+use crate::cause::{TextCause, TextFault};
 
 /// A reader of lines that are handed to it whole, one after another.
 ///
 /// What it keeps of them is its own affair: the lines for which it stands are known to proofs alone.
 /// After a cause nothing more is to be asked of it.
 pub trait Grammar: Drop {
-    ghost use Rattle.std.specs.Prelude.{ℕ, ◌≡◌, ◌+◌, List, length, MatchResult};
+    ghost use Rattle.std.specs.Prelude.{ℕ, ◌≡◌, ◌+◌, ◌≤◌, List, length, IfOk, OnOk, MatchResult};
     ghost use Rattle.race_text.specs.Lines.{Causes};
     ghost use Rattle.race_text.specs.Grammar as spec;
+    ghost use Rattle.race_text.specs.Fed as fed;
 
     /// What a whole text is read as.
     type Whole: Drop;
@@ -57,5 +58,33 @@ pub trait Grammar: Drop {
             (λ told. (k : Known) → spec.TellsOfFront causes (stands_for k self.old) bytes.now told) }
     {
         Ok(None)
+    }
+
+    /// Takes such lines in front of the bytes, one after another, and tells what is behind them.
+    #[inline(always)]
+    fn take_commons<'b>(&mut self, bytes: &'b [u8]) -> Result<&'b [u8], TextFault>
+        requires { (k : Known) × spec.StandsForSome (stands_for k self.old) }
+        ensures taken { MatchResult result
+            (λ rest. (k : Known) → fed.TakesBytes causes (stands_for k self.old) bytes.now (stands_for k self.new) rest.now)
+            (λ told. (k : Known) → fed.TellsOfWhole causes (stands_for k self.old) bytes.now told) }
+        ensures some { OnOk result ((k : Known) → spec.StandsForSome (stands_for k self.old) → spec.StandsForSome (stands_for k self.new)) }
+        ensures within { IfOk result (λ rest. length rest.now ≤ length bytes.now) }
+    {
+        let mut left = bytes;
+        loop {
+            let number = self.line();
+            match self.take_common(left) {
+                Err(cause) => {
+                    return Err(TextFault {
+                        line: number,
+                        cause,
+                    });
+                }
+                Ok(taken) => match taken {
+                    None => return Ok(left),
+                    Some(rest) => left = rest,
+                },
+            }
+        }
     }
 }

@@ -31,7 +31,7 @@ fn digits_in(word: &[u8]) -> Option<u64>
     }
 }
 
-// The same of so few that no number of them is too great.
+// The same of so few that no number of them is too great. Two are read at a time.
 #[inline(always)]
 fn few_digits(word: &[u8]) -> Option<u64>
     requires { length word.now < 20 }
@@ -39,13 +39,18 @@ fn few_digits(word: &[u8]) -> Option<u64>
     ensures other { IfNone result ((max : ℕ) → max < 2 ^ 64 → spec.number max word.now ≡ None) }
 {
     let mut value = 0;
-    for byte in word {
-        match digit_of(*byte) {
-            None => return None,
-            Some(digit) => value = value * 10 + digit,
-        }
+    let mut at = 0;
+    while word.len() - at >= 2 {
+        let first = digit_of(word[at])?;
+        let second = digit_of(word[at + 1])?;
+        value = value * 100 + (first * 10 + second);
+        at += 2;
     }
-    Some(value)
+    if at == word.len() {
+        return Some(value);
+    }
+    let last = digit_of(word[at])?;
+    Some(value * 10 + last)
 }
 
 // The same of any, which is tested at each digit.

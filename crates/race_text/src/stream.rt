@@ -6,7 +6,7 @@ ghost use Rattle.race_text.specs.{Ahead.{AreAhead, IsAhead}, Common.line_in};
 ghost use Rattle.race_text.specs.Stream as spec;
 
 use crate::ahead::{LineAhead, read_lines};
-use crate::cause::TextCause;
+use crate::cause::{TextCause, TextFault};
 use crate::grammar::Grammar;
 use crate::reader::Reader;
 use crate::taking::{take_ahead_behind, take_common_behind, take_event_behind};
@@ -63,6 +63,30 @@ impl<A: Allocator + Copy> Grammar for EventStream<A> {
     #[inline(always)]
     fn take_common<'b>(&mut self, bytes: &'b [u8]) -> Result<Option<&'b [u8]>, TextCause> {
         self.take_common(bytes)
+    }
+
+    // The lines are counted: to ask for the number of each costs more.
+    #[inline(always)]
+    fn take_commons<'b>(&mut self, bytes: &'b [u8]) -> Result<&'b [u8], TextFault> {
+        let mut number = self.line();
+        let mut left = bytes;
+        loop {
+            match self.take_common(left) {
+                Err(cause) => {
+                    return Err(TextFault {
+                        line: number,
+                        cause,
+                    });
+                }
+                Ok(taken) => match taken {
+                    None => return Ok(left),
+                    Some(rest) => {
+                        left = rest;
+                        number += 1;
+                    }
+                },
+            }
+        }
     }
 }
 

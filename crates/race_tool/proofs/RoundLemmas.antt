@@ -1,6 +1,7 @@
 -- Lines that threads read ahead of the reader, and bytes that are fed in two parts.
-use Rattle.std.proofs.Common.{◌≡◌, ℕ, List, ◌++◌, take, drop, IsTrue, All, None, Result, Ok, Err, IfOk, IfErr, Vec, refl, ap, ◌∙◌, subst, append_assoc}
-use Rattle.std.proofs.lemmas.List.{take-append-drop}
+use Rattle.std.proofs.Common.{◌≡◌, ℕ, ◌-◌, List, ◌++◌, length, length-drop, take, drop, IsTrue, All, None, Result, Ok, Err}
+use Rattle.std.proofs.Common.{IfOk, IfErr, Vec, refl, ap, ◌∙◌, subst, append_assoc, arith}
+use Rattle.std.proofs.lemmas.List.{take-append-drop, take_all}
 use Rattle.race_text.specs.declared.{ahead.LineAhead.LineAhead, fed.Fed.Fed, stream.EventStream.EventStream}
 use Rattle.race_text.specs.{Ahead.{AreAhead, AreKnownAhead}, Fed.IsReady}
 use Rattle.race_text.specs.Stream.{Known, StandsFor, decls_of, has_events, known_now}
@@ -38,6 +39,12 @@ of_both Holds before first rest bytes is has = subst Holds (append_assoc before 
 
 pub cut_whole : (n : ℕ) (first rest bytes : List ℕ) → first ≡ take n bytes → rest ≡ drop n bytes → first ++ rest ≡ bytes
 cut_whole n first rest bytes front back = (λ i. front i ++ back i) ∙ take-append-drop n bytes
+
+-- bytes are those in front and those from there on, as the code cuts them
+pub rest_whole : (n : ℕ) (bytes : List ℕ) → take n bytes ++ take (length bytes - n) (drop n bytes) ≡ bytes
+rest_whole n bytes =
+    let len = length-drop n bytes in
+    ap (λ (rest : List ℕ). take n bytes ++ rest) (take_all (length bytes - n) (drop n bytes) (omega (arith, len))) ∙ take-append-drop n bytes
 
 pub if_ok_map : {X E : Type 0} (F H : X → Type 0) (r : Result X E) → ((x : X) → F x → H x) → IfOk r F → IfOk r H
 if_ok_map F H (Ok x) on has = on x has

@@ -138,7 +138,8 @@ fn feed_side_by_side<T: Threads + Sync, A: Allocator + Copy + Send + Sync>(
     if is_of_little_use(bytes, lists) {
         ahead.pause = PAUSE;
     }
-    reader.feed_ahead(bytes, lists)
+    let at = reader.feed_ahead(bytes, lists)?;
+    reader.feed(&bytes[at..])
 }
 
 // Whether few of the lines could be read ahead: a common one has some forty bytes.

@@ -1,8 +1,8 @@
 -- Each line is taken where it lies.
 use Rattle.std.proofs.Common.{◌+◌, ◌<◌, drop, length, sym, subst, arith}
-use Rattle.race_text.specs.{Common.{line_in, EndsLine}, Fault.trace_causes, Fed.TakesBytes, Grammar.Takes, Stream.{Known, StandsFor}}
-use Rattle.race_text.proofs.{AheadLemmas.{later, rest_is}, FedLemmas.{match_err, next_is, some_taken}}
-use Rattle.race_text.proofs.{LinesTaken.{next_taken, next_told}}
+use Rattle.race_text.specs.{Common.{line_in, EndsLine}, Fault.trace_causes, Fed.{TakesBytes, TakesFront}, Grammar.Takes, Stream.{Known, StandsFor}}
+use Rattle.race_text.proofs.{AheadLemmas.{later, rest_is}, AheadTaken.{front_taken, then_next, then_none}, FedLemmas.{match_err, next_is, some_taken}}
+use Rattle.race_text.proofs.{LinesTaken.{next_told}}
 use Rattle.race_text.proofs.fed_ahead.take_until.Goals.{In-Some}
 use Rattle.race_text.proofs.fed_ahead.take_until.Goals as goal
 
@@ -23,8 +23,17 @@ returns-in_err-take_other-clause-taken g c =
     match_err _ _ c.from_residual.result c.in_err-take_other.field-0.0 c.from_residual.ensures.1
     (λ k. next_told trace_causes _ _ (StandsFor k c.take_other.new.reader) (drop c.args.from c.args.bytes.now) c.bytes_from.result.now
     (subst (TakesBytes trace_causes (StandsFor k c.args.reader.now) (drop c.args.from c.args.bytes.now) (StandsFor k c.loop-at.reader))
-    (sym c.bytes_from.ensures) (c.loop-at.invariant.taken k))
+    (sym c.bytes_from.ensures)
+    (front_taken trace_causes _ _ (StandsFor k c.take_other.new.reader) (drop c.args.from c.args.bytes.now) (drop c.loop-at.at c.args.bytes.now)
+    (c.loop-at.invariant.taken k)))
     c.in_err-take_other.field-0.0 (c.in_err-take_other.ensures k))
+
+pub returns-in-None-clause-taken : goal.returns-in-None-clause-taken
+returns-in-None-clause-taken g c = λ k.
+    then_none trace_causes (StandsFor k c.args.reader.now) (StandsFor k c.loop-at.reader) (StandsFor k c.take_other.new.reader)
+    (drop c.args.from c.args.bytes.now) (drop c.loop-at.at c.args.bytes.now) (c.loop-at.invariant.taken k)
+    (next_is trace_causes (StandsFor k c.loop-at.reader) c.bytes_from.result.now (StandsFor k c.take_other.new.reader) c.in-None.is
+    (c.in_ok-take_other.ensures k)).1
 
 pub overflow_sub-at : goal.overflow_sub-at
 overflow_sub-at g c = let l = less g c in omega (arith, l)
@@ -43,10 +52,10 @@ loop-at-preserved g c =
     record {
       some = λ k stood. some_taken trace_causes _ (line_in c.bytes_from.result.now) _ (next g at k).1 (c.loop-at.invariant.some k stood);
       taken = λ k.
-          subst (TakesBytes trace_causes (StandsFor k c.args.reader.now) (drop c.args.from c.args.bytes.now) (StandsFor k c.take_other.new.reader))
+          subst (TakesFront trace_causes (StandsFor k c.args.reader.now) (drop c.args.from c.args.bytes.now) (StandsFor k c.take_other.new.reader))
           (sym (rest_is c.args.bytes.now c.bytes_from.result.now (line_in c.bytes_from.result.now) c.in-Some.rest.now c.loop-at.at c.bytes_from.ensures (next g at k).0))
-          (next_taken trace_causes _ _ _ (drop c.args.from c.args.bytes.now) c.bytes_from.result.now
-          (subst (TakesBytes trace_causes (StandsFor k c.args.reader.now) (drop c.args.from c.args.bytes.now) (StandsFor k c.loop-at.reader))
+          (then_next trace_causes _ _ _ (drop c.args.from c.args.bytes.now) c.bytes_from.result.now
+          (subst (TakesFront trace_causes (StandsFor k c.args.reader.now) (drop c.args.from c.args.bytes.now) (StandsFor k c.loop-at.reader))
           (sym c.bytes_from.ensures) (c.loop-at.invariant.taken k)) c.in-Some.rest (next g at k));
       within = omega (arith, l);
     }

@@ -1,6 +1,6 @@
 -- What is behind the lines that were taken goes on in the piece, and a fault that was told stays.
-use Rattle.std.proofs.Common.{◌++◌}
-use Rattle.race_text.specs.{Fault.trace_causes, Stream.StandsFor}
+use Rattle.std.proofs.Common.{◌++◌, take, sym, subst}
+use Rattle.race_text.specs.{Fault.trace_causes, Fed.IsUnended, Stream.StandsFor}
 use Rattle.race_text.proofs.AheadTaken.{fed_on}
 use Rattle.race_text.proofs.FedLemmas.{told_stays, told_of, told_behind, none_behind, owed_of}
 use Rattle.race_text.proofs.fed_ahead.Fed+EventStream+A+A.feed_ahead.Goals as goal
@@ -17,7 +17,8 @@ returns-in-Some-clause-err g c = λ k fed S.
 pub returns-in-Ok-clause-ok : goal.returns-in-Ok-clause-ok
 returns-in-Ok-clause-ok g c = λ k fed S.
     none_behind trace_causes (StandsFor k) c.args.self.now (StandsFor k c.take_ahead.new.self.reader) c.take_ahead.new.self.part.items
-    c.args.piece.now fed c.in-None.is c.in-Ok.ensures.unended (c.in-Ok.ensures.taken k) S
+    (take c.in-Ok.at c.args.piece.now) fed c.in-None.is
+    (subst (λ p. IsUnended p.items) (sym c.take_ahead.ensures.same) (c.requires.1 c.in-None.is).unended) (c.in-Ok.ensures.taken k) S
 
 pub returns-in-Err-clause-err : goal.returns-in-Err-clause-err
 returns-in-Err-clause-err g c = λ k fed S.
@@ -29,5 +30,5 @@ returns-in-Err-clause-owed g c = λ fine none k fed S.
 
 pub returns-in-Ok-clause-goes_on : goal.returns-in-Ok-clause-goes_on
 returns-in-Ok-clause-goes_on g c = λ k fed S.
-    fed_on trace_causes (StandsFor k) c.args.self.now (record { lines = c.take_ahead.new.self; fault = c.args.self.now.fault }) c.args.piece.now fed
+    fed_on trace_causes (StandsFor k) c.args.self.now (record { lines = c.take_ahead.new.self; fault = c.args.self.now.fault }) (take c.in-Ok.at c.args.piece.now) fed
     c.in-None.is c.in-None.is (c.in-Ok.ensures.taken k) S

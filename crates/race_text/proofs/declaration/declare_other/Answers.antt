@@ -2,8 +2,8 @@ use Rattle.std.proofs.Common.{◌∙◌, sym, ap, rules}
 use Rattle.race_text.specs.{Words.parts_left, Declaring.{with_declared, cause_of}}
 use Rattle.race_text.proofs.DeclarationLemmas.{InHand, in_hand, made_in_hand}
 use Rattle.race_records.specs.Declarations.{with_declaration, decl_fault}
-use Rattle.race_text.proofs.declaration.declare.Goals.{After-cut_at}
-use Rattle.race_text.proofs.declaration.declare.Goals as goal
+use Rattle.race_text.proofs.declaration.declare_other.Goals.{After-cut_at}
+use Rattle.race_text.proofs.declaration.declare_other.Goals as goal
 
 module _ (g : _) (c : goal.After-cut_at g) where
   hand : InHand c.args.decls.now.declarations c.args.keyword (parts_left 32 c.args.rest) c.cut_at.result.0.now c.cut_at.result.1

@@ -1,0 +1,15 @@
+pub mod Apart
+pub mod Exchanged
+pub mod OperationKinds
+pub mod Asked
+pub mod ExchangedSays
+pub mod Unseen
+pub mod OtherWay
+pub mod OtherOrders
+pub mod InOrder
+pub mod FirstTurned
+pub mod ExampleTests
+pub mod Moved
+pub mod SourcesKept
+pub mod ReachesKept
+pub mod RacesKept

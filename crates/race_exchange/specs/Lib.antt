@@ -1,0 +1,5 @@
+pub mod Independent
+pub mod Exchange
+pub mod Says
+pub mod Laws
+pub mod Examples

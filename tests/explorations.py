@@ -113,44 +113,35 @@ def step_on(program, at, event):
     return behind
 
 
-class Explored:
-    """What all runs come to: their count; of each variable in how many it has a race; and of each end how many have it."""
+def who_takes_part(event):
+    return {event[1], event[2]} if event[0] in ("meet", "go") else {event[1]}
 
-    def __init__(self, text, limit, most):
-        self.program, self.limit, self.most = Program(text), limit, most
+
+def is_on(event):
+    """Returns the name of the variable, channel, lock or once that the event is on, if it is on one."""
+    return None if event[0] in ("go", "exit") else event[3] if event[0] == "meet" else event[2]
+
+
+def are_independent(one, other):
+    """Tells whether two neighbours may change places, by docs/EXPLORE.md."""
+    if any(it[0] in ("default", "fault") or it[:2] == ["exit", "main"] for it in (one, other)):
+        return False
+    if who_takes_part(one) & who_takes_part(other):
+        return False
+    return one[0] == other[0] == "read" or is_on(one) is None or is_on(one) != is_on(other)
+
+
+class Tally:
+    """How many runs there are; of each variable in how many it has a race; and of each end how many have it."""
+
+    def __init__(self):
         self.runs = self.clean = self.racy = 0
-        self.races, self.ends, self.words = Counter(), Counter(), Counter()
-        self.walk([], {who: 0 for who in self.program.order})
+        self.races, self.ends = Counter(), Counter()
 
-    def walk(self, events, at):
-        run = graph.Run(self.program.declared)
-        for event in events:
-            run.take(event)
-        found, steps = moves(self.program, run, at)
-        last = events[-1] if events else ["", "", "", ""]
-        if last[:2] == ["exit", "main"]:
-            self.end(events, None)
-        elif last[0] == "fault":
-            self.end(events, ("fault", f"{last[1]} at {last[-1]}"))
-        elif len(events) == self.limit:
-            self.end(events, ("limit", ""))
-        elif not found:
-            self.end(events, ("deadlock", ", ".join(f"{who} at {step[-1]}" for who, step in steps.items())))
-        for event in found if not run.is_over and len(events) < self.limit else []:
-            self.walk([*events, event], step_on(self.program, at, event))
-
-    def end(self, events, how):
+    def add(self, races, how):
         self.runs += 1
-        if self.runs > self.most:
-            raise TooMany
-        lines = [f"gotrace {self.program.version}", *self.program.declared, *(" ".join(event) for event in events)]
-        trace = graph.Trace(("\n".join(lines) + "\n").encode())
-        if trace.broken:
-            raise AssertionError(trace.broken)
-        races = trace.reported()
         self.races.update(list(races))
         self.racy += bool(races)
-        self.words.update({event[0] for event in events})
         if how:
             self.ends[how] += 1
         self.clean += not races and not how
@@ -164,3 +155,50 @@ class Explored:
     def status(self):
         found = {what for what, _ in self.ends}
         return 66 if self.racy else 10 if "fault" in found else 11 if "deadlock" in found else 12 if "limit" in found else 0
+
+
+class Explored:
+    """What all runs come to, and what those come to in which no two independent neighbours, after which something comes, have the
+    goroutine first that is declared later. `skipped` counts the shortest beginnings of the others by which they are known."""
+
+    def __init__(self, text, limit, most):
+        self.program, self.limit, self.most = Program(text), limit, most
+        self.all, self.in_order, self.skipped, self.words = Tally(), Tally(), 0, Counter()
+        self.walk([], {who: 0 for who in self.program.order}, True)
+
+    def walk(self, events, at, in_order):
+        run = graph.Run(self.program.declared)
+        for event in events:
+            run.take(event)
+        found, steps = moves(self.program, run, at)
+        last = events[-1] if events else ["", "", "", ""]
+        if last[:2] == ["exit", "main"]:
+            self.end(events, None, in_order)
+        elif last[0] == "fault":
+            self.end(events, ("fault", f"{last[1]} at {last[-1]}"), in_order)
+        elif len(events) == self.limit:
+            self.end(events, ("limit", ""), in_order)
+        elif not found:
+            self.end(events, ("deadlock", ", ".join(f"{who} at {step[-1]}" for who, step in steps.items())), in_order)
+        else:
+            if in_order and self.are_turned(events[-2:]):
+                self.skipped, in_order = self.skipped + 1, False
+            for event in found:
+                self.walk([*events, event], step_on(self.program, at, event), in_order)
+
+    def are_turned(self, two):
+        rank = self.program.order.index
+        return len(two) == 2 and rank(two[0][1]) > rank(two[1][1]) and are_independent(*two)
+
+    def end(self, events, how, in_order):
+        if self.all.runs == self.most:
+            raise TooMany
+        lines = [f"gotrace {self.program.version}", *self.program.declared, *(" ".join(event) for event in events)]
+        trace = graph.Trace(("\n".join(lines) + "\n").encode())
+        if trace.broken:
+            raise AssertionError(trace.broken)
+        races = trace.reported()
+        self.words.update({event[0] for event in events})
+        self.all.add(races, how)
+        if in_order:
+            self.in_order.add(races, how)

@@ -5,7 +5,9 @@
 
 A round is a program of some steps in two goroutines or three, now and then with a limit on events. How many runs there are, of each
 variable in how many it has a race, and of each end how many have it, has to be the same; and `gorace race` by the picks of each line
-has to show what the line says. Then as many runs are asked for as there are, and one fewer. What differs is printed with the input.
+has to show what the line says. Then as many runs are asked for as there are, and one fewer. With --reduce the same has to hold of
+the runs in which no independent neighbours are turned; with as many skipped, the same variables with a race, and the same ends. What
+differs is printed with the input.
 The last line is `N passed, M failed`."""
 
 import argparse
@@ -33,6 +35,7 @@ PAIRS = ["send d 1", "recv d"], ["send c 2", "recv c"], ["lock m;write x 4;unloc
 SELDOM = "close d|recv nil|send nil 1|close nil|runlock r".split("|")
 TRIES = "trylock m;write x 7|tryrlock r;read y|trylock m|trylock r;unlock r|trylock m;unlock m"
 RACE = re.compile(r"race on (\w+) in (\d+) of (\d+) runs: (\w+ by \w+ at \S+), (\w+ by \w+ at \S+); with --picks ([0-9,]+)")
+SKIPPED = re.compile(r"skipped: (\d+) runs that differ from others only in the order of independent steps")
 END = re.compile(r"(fault|deadlock|limit) in (\d+) of (\d+) runs(?:: (.*))?; with --picks ([0-9,]+)")
 ENOUGH = 15
 
@@ -75,6 +78,29 @@ def look_at_lines(gorace, text, lines, line):
     return races, ends
 
 
+def look_at_runs(gorace, text, line, wanted):
+    """Compares what the command says of a program with a tally of its runs, and returns it."""
+    told, status = gorace.told(text.encode(), *line)
+    *lines, counts = told.splitlines() or [""]
+    if (counts, status) != (wanted.counts(), wanted.status()):
+        raise Wrong(line, text.encode(), (told, status), (wanted.counts(), wanted.status()))
+    lines = [told for told in lines if not SKIPPED.fullmatch(told)]
+    found = look_at_lines(gorace, text, lines, line)
+    if found != (wanted.races, wanted.ends) or len(lines) != len(wanted.races) + len(wanted.ends):
+        raise Wrong(line, text.encode(), told, (wanted.races, wanted.ends))
+    return told, status
+
+
+def look_at_budget(gorace, text, line, told, made):
+    """Asks for as many runs as are made, and for one fewer."""
+    gorace.tells(told, text.encode(), *line, "--runs", str(made))
+    if made > 1:
+        fewer = made - 1
+        told, _ = gorace.told(text.encode(), *line, "--runs", str(fewer))
+        if f"stopped after {fewer} runs\n" not in told:
+            raise Wrong([*line, "--runs", str(fewer)], text.encode(), told, f"that it stops after {fewer}")
+
+
 def compare(gorace, seed, number, seen):
     chance = random.Random(f"{seed} {number}")
     while True:
@@ -85,23 +111,22 @@ def compare(gorace, seed, number, seen):
         except explorations.TooMany:
             seen["too many"] += 1
     line = ["explore"] + (["--limit", str(limit)] if limit < 100 else [])
-    told, status = gorace.told(text.encode(), *line)
-    *lines, counts = told.splitlines() or [""]
-    if (counts, status) != (wanted.counts(), wanted.status()):
-        raise Wrong(line, text.encode(), (told, status), (wanted.counts(), wanted.status()))
-    found = look_at_lines(gorace, text, lines, line)
-    if found != (wanted.races, wanted.ends) or len(lines) != len(wanted.races) + len(wanted.ends):
-        raise Wrong(line, text.encode(), told, (wanted.races, wanted.ends))
-    gorace.tells((told, status), text.encode(), *line, "--runs", str(wanted.runs))
-    if wanted.runs > 1:
-        fewer = wanted.runs - 1
-        told, _ = gorace.told(text.encode(), *line, "--runs", str(fewer))
-        if f"stopped after {fewer} runs\nruns: {fewer}, " not in told:
-            raise Wrong([*line, "--runs", str(fewer)], text.encode(), told, f"that it stops after {fewer}")
+    look_at_budget(gorace, text, line, look_at_runs(gorace, text, line, wanted.all), wanted.all.runs)
+    fewer = [*line, "--reduce"]
+    told = look_at_runs(gorace, text, fewer, wanted.in_order)
+    skipped = [int(it[1]) for it in map(SKIPPED.fullmatch, told[0].splitlines()) if it]
+    if skipped != [wanted.skipped] * (wanted.skipped > 0):
+        raise Wrong(fewer, text.encode(), told, f"that {wanted.skipped} runs are skipped")
+    same = [(set(it.races), set(it.ends), it.status()) for it in (wanted.all, wanted.in_order)]
+    if same[0] != same[1]:
+        raise Wrong(fewer, text.encode(), same[1], same[0])
+    look_at_budget(gorace, text, fewer, told, wanted.in_order.runs + wanted.skipped)
     seen.update(wanted.words.keys())
-    seen.update({what for what, _ in wanted.ends})
-    seen.update({"racy": bool(wanted.racy), "some racy": 0 < wanted.racy < wanted.runs, "clean": wanted.clean == wanted.runs})
-    seen["runs"] += wanted.runs
+    seen.update({what for what, _ in wanted.all.ends})
+    runs = wanted.all.runs
+    seen.update({"racy": bool(wanted.all.racy), "some racy": 0 < wanted.all.racy < runs, "clean": wanted.all.clean == runs, "fewer": bool(wanted.skipped)})
+    seen["runs"] += runs
+    seen["judged"] += wanted.in_order.runs
 
 
 def round_of(number, program, seed):
@@ -118,7 +143,7 @@ def missed(seen, count):
     """Gives what so many rounds should have met, and didn't often enough."""
     if count >= USUAL:
         yield from (f"no round met {word}" for word in graph.WORDS if not seen[word])
-        wanted = ("fault", "deadlock", "limit", "some racy", "clean")
+        wanted = ("fault", "deadlock", "limit", "some racy", "clean", "fewer")
         yield from (f"only {seen[it]} rounds met {it}" for it in wanted if seen[it] < ENOUGH)
 
 
@@ -138,7 +163,8 @@ def main():
     failed += [f"FAILED: {it}" for it in missed(seen, given.count) if not failed]
     for wrong in failed:
         print(wrong)
-    print(f"{seen['runs']} runs of {given.count} programs: {seen['some racy']} with a race in some runs and not in others, {seen['clean']} clean")
+    print(f"{seen['runs']} runs of {given.count} programs, {seen['judged']} of them judged with --reduce: {seen['some racy']} with a race in some runs")
+    print(f"and not in others, {seen['clean']} clean")
     print(f"{given.count - len(failed)} passed, {len(failed)} failed")
     return 1 if failed else 0
 

@@ -23,7 +23,7 @@ _gorace() {
         edges) offers='-h --help' ;;
         run) offers='--workers --seed --limit --picks -h --help' ;;
         race) offers='--workers --seed --limit --picks --shards --block --plain -h --help' ;;
-        explore) offers='--runs --limit -h --help' ;;
+        explore) offers='--runs --limit --reduce -h --help' ;;
         witness) offers='-h --help' ;;
         draw) offers='--svg -h --help' ;;
         predict) offers='--turned --most -h --help' ;;

@@ -15,7 +15,7 @@ use clap::{Arg, ArgAction, ArgMatches, Command, Error};
 use race_records::MAX_EVENTS;
 use race_tool::{
     CheckOptions, ExploreOptions, MAX_BLOCK, MAX_PREDICTED, MAX_RUNS, MAX_SHARDS, MAX_WORKERS,
-    PredictOptions, RunOptions,
+    Orders, PredictOptions, RunOptions,
 };
 use std::alloc::{AllocError, Global};
 use std::convert::AsStr;
@@ -308,7 +308,13 @@ fn explore_options(alloc: Global, given: &ArgMatches<'_>) -> Result<ExploreOptio
     Ok(ExploreOptions {
         runs: runs.unwrap_or(usual.runs as usize) as u64,
         limit: limit.unwrap_or(usual.limit as usize) as u32,
+        orders: orders(given.get_flag("reduce")),
     })
+}
+
+// All orders, or where fewer are wanted one.
+fn orders(reduce: bool) -> Orders {
+    if reduce { Orders::One } else { Orders::All }
 }
 
 // How a program is run, as the command's words say.

@@ -55,8 +55,8 @@ This writes the report of 'gorace check', and after it
   of each race: both accesses with their lines, what each goroutine had locked,
   its last synchronization before, who started it, and what the second access has
   seen of the first one's goroutine;
-  of a clean trace: how much of what is declared is used, what isn't, and whether
-  an event ends the run.
+  of a clean trace: how much of what is declared is used, what isn't, which locks
+  are held at the end, and whether an event ends the run.
 
 A line is shown in quotes, of a long one the part around the mark.
 
@@ -335,9 +335,15 @@ same places, have one line.
 Where there are more runs than --runs, a line 'stopped after N runs' tells so,
 and nothing is said of the others.
 
+With --reduce runs are skipped that differ from others only in the order of
+independent steps, and a line tells how many. Steps are independent where no
+goroutine takes part in both, and they aren't on one variable, channel, lock or
+once, or are both reads. The same variables have a race, and runs end in the
+same ways, but the counts are of those that were judged.
+
 Statuses:
   66  some run has data races
-  0   all runs were looked at, none has a race, and main returned in each
+  0   no run has a race, and main returns in each
   10  none has a race, and in one a goroutine failed
   11  as 10, but in one each goroutine waits, and none can go on
   12  as 11, but in one the limit is reached, or there are more runs

@@ -23,10 +23,12 @@ counts_more seen looked old new counts more = record {
   faults = let a = more.faults in let b = counts.faults in let c = count_more (λ (l : Looked). is_fault_end l.run.end) seen looked in omega (arith, a, b, c);
 }
 
--- no count is greater than that of the runs
-pub counts_bounded : {A : Type 0} (seen : List Looked) (e : Explored A) → Counts seen e → e.runs < MAX_RUNS → IsBounded e
-counts_bounded seen e counts few = record {
-  runs = few;
+-- no count is greater than that of the runs, nor this than that of those that were made
+pub counts_bounded : {A : Type 0} (seen : List Looked) (skipped : ℕ) (e : Explored A) → Counts seen e → e.made ≡ length seen + skipped → e.made < MAX_RUNS
+    → IsBounded e
+counts_bounded seen skipped e counts made few = record {
+  runs = let all = counts.runs in omega (arith, all, made, few);
+  made = few;
   clean = bound e.clean (λ (l : Looked). is_clean_run l.verdict l.run.end) counts.clean;
   races = bound e.races (λ (l : Looked). is_racy_verdict l.verdict) counts.races;
   deadlocks = bound e.deadlocks (λ (l : Looked). is_deadlock_end l.run.end) counts.deadlocks;
@@ -40,6 +42,7 @@ counts_bounded seen e counts few = record {
 pub still_bounded : {A : Type 0} (old between : Explored A) → IsBounded old → HasSameCounts old between → IsBounded between
 still_bounded old between bounded same = record {
   runs = let a = bounded.runs in let b = same.runs in omega (arith, a, b);
+  made = let a = bounded.made in let b = same.made in omega (arith, a, b);
   clean = let a = bounded.clean in let b = same.runs in let c = same.clean in omega (arith, a, b, c);
   races = let a = bounded.races in let b = same.runs in let c = same.races in omega (arith, a, b, c);
   deadlocks = let a = bounded.deadlocks in let b = same.runs in let c = same.deadlocks in omega (arith, a, b, c);

@@ -1,5 +1,5 @@
 -- Which lists of picks are left.
-use Rattle.std.proofs.Common.{ℕ, ◌≡◌, ◌⊎◌, ◌<◌, ◌+◌, Bool, true, false, List, [], ◌∷◌, Option, Some, None, refl, sym, ap, arith, inl, inr, true≢false}
+use Rattle.std.proofs.Common.{ℕ, ◌≡◌, ◌⊎◌, ◌<◌, ◌+◌, ◌++◌, Bool, true, false, List, [], ◌∷◌, Option, Some, None, refl, sym, ap, arith, inl, inr, true≢false}
 use Rattle.std.specs.Prelude.{if◌then◌else◌, nat_lt}
 use Rattle.std.proofs.Common.{◌≤◌, subst}
 use Rattle.std.proofs.lemmas.{Bool.Decides.nat_tests, Option.none-some}
@@ -84,3 +84,16 @@ none_before (p ∷ picks) (f ∷ forks) (g ∷ others) has (inr later) (inl (sam
     let first = has.0 in absurd (omega (arith, first, same, later))
 none_before (p ∷ picks) (f ∷ forks) (g ∷ others) has (inr later) (inr (less, more)) =
     let first = has.0 in absurd (omega (arith, first, less, later))
+
+-- what comes later than some choices of a run comes later than the run
+pub after_front : (kept rest others : List Fork) → After kept others → After (kept ++ rest) others
+after_front [] rest others after = absurd after
+after_front (f ∷ kept) rest [] after = absurd after
+after_front (f ∷ kept) rest (g ∷ others) (inl (same, after)) = inl (same, after_front kept rest others after)
+after_front (f ∷ kept) rest (g ∷ others) (inr less) = inr less
+
+-- the picks of a run are those of its first choices
+pub front_picks : (picks : List ℕ) (kept rest : List Fork) → HasPicks picks (kept ++ rest) → HasPicks picks kept
+front_picks picks [] rest has = tt
+front_picks [] (f ∷ kept) rest has = (has.0, front_picks [] kept rest has.1)
+front_picks (p ∷ picks) (f ∷ kept) rest has = (has.0, front_picks picks kept rest has.1)

@@ -14,6 +14,7 @@ use Rattle.race_verdict.specs.declared.races.Race as tool
 same_counts_on : {A : Type 0} (a b c : Explored A) → HasSameCounts a b → HasSameCounts b c → HasSameCounts a c
 same_counts_on a b c x y = record {
   runs = y.runs ∙ x.runs;
+  made = y.made ∙ x.made;
   clean = y.clean ∙ x.clean;
   races = y.races ∙ x.races;
   deadlocks = y.deadlocks ∙ x.deadlocks;
@@ -39,7 +40,7 @@ module _ {A : Type 0} (before : Explored A) (picks : List ℕ) (r : RecordingSta
 
   pub noting_begins : All (λ v. v.runs ≤ before.runs) before.racy.items → IsNoting 0 before
   noting_begins few = record {
-    same = record { runs = refl; clean = refl; races = refl; deadlocks = refl; faults = refl; whole = refl };
+    same = record { runs = refl; made = refl; clean = refl; races = refl; deadlocks = refl; faults = refl; whole = refl };
     bad = refl;
     few = All-weaker (λ (v : RacyVariable A). v.runs ≤ before.runs) (λ (v : RacyVariable A). v.runs ≤ before.runs + 0) (λ v below. omega (arith, below)) before.racy.items
         few;

@@ -3,6 +3,8 @@ pub mod Looked
 pub mod Told
 pub mod Standing
 pub mod Ends
+pub mod Orders
 pub mod Ways
 pub mod Walk
 pub mod Examples
+pub mod Laws

@@ -16,6 +16,11 @@ pub record Looked : Type 0 where
   pub run : RecordingState
   pub verdict : Verdict
 
+-- a run that was made, and wasn't looked at
+pub record Skipped : Type 0 where
+  pub picks : List ℕ
+  pub run : RecordingState
+
 -- so it was recorded, with this verdict
 abbrev pub looked_of : {A : Type 0} → List ℕ → RecordingState → Found A → Looked
 looked_of picks r verdict = record { picks = picks; run = r; verdict = verdict_of verdict }
@@ -61,15 +66,21 @@ pub record Counts {A : Type 0} (seen : List Looked) (e : Explored A) : Type 0 wh
 -- one run more was counted, which ended so and has this verdict
 pub record IsCounted {A : Type 0} (end : End) (verdict : Verdict) (old new : Explored A) : Type 0 where
   pub runs : new.runs ≡ old.runs + 1
+  pub made : new.made ≡ old.made + 1
   pub clean : new.clean ≡ old.clean + cond (is_clean_run verdict end) 1 0
   pub races : new.races ≡ old.races + cond (is_racy_verdict verdict) 1 0
   pub deadlocks : new.deadlocks ≡ old.deadlocks + cond (is_deadlock_end end) 1 0
   pub faults : new.faults ≡ old.faults + cond (is_fault_end end) 1 0
   pub whole : new.whole ≡ old.whole
 
+-- one run more was made, and skipped
+abbrev pub one_skipped : {A : Type 0} → Explored A → Explored A
+one_skipped e = record e { made = e.made + 1 }
+
 -- no run more was
 pub record HasSameCounts {A : Type 0} (old new : Explored A) : Type 0 where
   pub runs : new.runs ≡ old.runs
+  pub made : new.made ≡ old.made
   pub clean : new.clean ≡ old.clean
   pub races : new.races ≡ old.races
   pub deadlocks : new.deadlocks ≡ old.deadlocks
@@ -79,6 +90,7 @@ pub record HasSameCounts {A : Type 0} (old new : Explored A) : Type 0 where
 -- there is room for one more
 pub record IsBounded {A : Type 0} (e : Explored A) : Type 0 where
   pub runs : e.runs < MAX_RUNS
+  pub made : e.made < MAX_RUNS
   pub clean : e.clean ≤ e.runs
   pub races : e.races ≤ e.runs
   pub deadlocks : e.deadlocks ≤ e.runs

@@ -1,7 +1,8 @@
 //! What the runs come to.
-ghost use Rattle.std.specs.Prelude.{◌≡◌, ◌≤◌, ◌<◌, ◌+◌, ◌^◌, ◌++◌, ◌∷◌, [], All, List, false, OnOk};
+ghost use Rattle.std.specs.Prelude.{◌≡◌, ◌≤◌, ◌<◌, ◌+◌, ◌-◌, ◌^◌, ◌++◌, ◌∷◌, [], All, List, false, OnOk};
 ghost use Rattle.race_verdict.specs.{Races.race_of, Traces.HasVerdict, Verdicts.verdict_of};
-ghost use Rattle.race_explore.specs.Looked.{AreAccesses, Counts, HasSameCounts, IsCounted, IsBounded};
+ghost use Rattle.race_explore.specs.Looked.{AreAccesses, Counts, HasSameCounts, IsCounted, IsBounded, one_skipped};
+ghost use Rattle.race_explore.specs.declared.walk.TheConstants.{MAX_RUNS};
 ghost use Rattle.race_explore.specs.Looked.{Looked, looked_of};
 ghost use Rattle.race_explore.specs.{Ends.{AreBadEnds, CountsEndOf}, Told.{AreRacy, CountsRace}};
 ghost use Rattle.race_explore.specs.Looked as spec;
@@ -29,8 +30,10 @@ pub struct RacyVariable<A: Allocator> {
 #[derive(Drop)]
 pub struct Explored<A: Allocator> {
     alloc: A,
-    /// How many runs there are.
+    /// How many runs were judged.
     pub runs: u64,
+    /// How many were made, by their picks: those that were judged, and those that were skipped.
+    pub made: u64,
     /// In how many main returned, and there was no race.
     pub clean: u64,
     /// How many had a race, however they ended.
@@ -47,17 +50,28 @@ pub struct Explored<A: Allocator> {
     pub bad: Vec<BadEnd<A>, A>,
 }
 
+impl<A: Allocator> Explored<A> {
+    /// How many of the runs that were made were skipped.
+    pub fn skipped(&self) -> u64
+        ensures { result ≡ self.now.made - self.now.runs }
+    {
+        self.made.saturating_sub(self.runs)
+    }
+}
+
 impl<A: Allocator + Copy> Explored<A> {
     /// No run yet.
     pub(crate) fn new(alloc: A) -> Explored<A>
         ensures counts { Counts [] result }
         ensures racy { AreRacy [] result.racy.items }
         ensures bad { AreBadEnds [] result.bad.items }
+        ensures made { result.made ≡ 0 }
         ensures whole { result.whole ≡ false }
     {
         Explored {
             alloc,
             runs: 0,
+            made: 0,
             clean: 0,
             races: 0,
             deadlocks: 0,
@@ -90,6 +104,14 @@ impl<A: Allocator + Copy> Explored<A> {
         Ok(())
     }
 
+    /// Counts a run that isn't looked at.
+    pub(crate) fn skip(&mut self)
+        requires { self.old.made < MAX_RUNS }
+        ensures { self.new ≡ one_skipped self.old }
+    {
+        self.made += 1;
+    }
+
     // One run more, which ended so and has this verdict.
     fn count_run(&mut self, end: End, verdict: &Verdict<A>)
         requires { IsBounded self.old }
@@ -98,6 +120,7 @@ impl<A: Allocator + Copy> Explored<A> {
         ensures bad { self.new.bad.items ≡ self.old.bad.items }
     {
         self.runs += 1;
+        self.made += 1;
         self.clean += u64::from(is_clean_run(verdict, end));
         self.races += u64::from(is_racy(verdict));
         self.deadlocks += u64::from(is_deadlock(end));

@@ -4,7 +4,9 @@
 pub mod examples;
 mod explored;
 mod fault;
+pub mod laws;
 mod odometer;
+mod orders;
 mod places;
 mod reported;
 mod stuck;
@@ -13,6 +15,7 @@ mod walked;
 
 pub use explored::{Explored, RacyVariable};
 pub use fault::ExploreFault;
+pub use orders::Orders;
 pub use stuck::{BadEnd, Standing};
 pub use walk::{MAX_RUNS, explore};
 pub use walked::program_hub;

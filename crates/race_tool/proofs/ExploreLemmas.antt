@@ -3,13 +3,14 @@ use Rattle.std.proofs.Common.{ℕ, ◌≡◌, zero, suc, ◌+◌, ◌<◌, ◌�
 use Rattle.std.proofs.Common.{List, [], ◌∷◌, length, Option, Some, refl, sym, ap, ◌∙◌, subst, arith, slice_get}
 use Rattle.std.proofs.lemmas.{Bool.Decides.nat_tests, List.Sums.{count_by-le-length, sum_by-cons}, Option.{slice_get_within, get_or_from_slice_get}}
 use Rattle.std.specs.List.{count_by}
-use Rattle.race_records.specs.{declared.{source.Source.Source, sink.Sink.Sink}, Devices.unread}
-use Rattle.race_model.specs.Verdict.{Verdict, Clean, Races, Illegal}
-use Rattle.race_verdict.specs.Traces.{HasVerdict, IsClean, IsRacy}
+use Rattle.race_records.specs.{declared.{source.Source.Source, sink.Sink.Sink}, Declarations.{DeclsState, capacity_of}, Devices.unread}
+use Rattle.race_model.specs.{Legal.IsLegal, Race.IsDataRaceFree, Verdict.{Verdict, Clean, Races, Illegal}}
+use Rattle.race_exchange.proofs.{OtherOrders.{order_back, other_orders_legal}, RacesKept.races_kept}
+use Rattle.race_verdict.specs.Traces.{HasVerdict, IsClean, IsRacy, capacities}
 use Rattle.race_hub.specs.{declared.ending.End.End, Recording.RecordingState}
 use Rattle.race_script.specs.{Fault.program_causes, Program.ProgramState}
-use Rattle.race_explore.specs.declared.explored.Explored.{Explored}
-use Rattle.race_explore.specs.Walk.{Looked, IsExplored, IsLooked, trace_of, is_clean_run, is_racy_verdict, is_fault_end, is_deadlock_end}
+use Rattle.race_explore.specs.{declared.{explored.Explored.Explored, orders.Orders.Orders}, Orders.IsSameRun}
+use Rattle.race_explore.specs.Walk.{Looked, IsExplored, IsLooked, EachWanted, trace_of, is_clean_run, is_racy_verdict, is_fault_end, is_deadlock_end}
 use Rattle.race_tool.specs.declared.{explore.{ExploreOptions.ExploreOptions, ExploredProgram.ExploredProgram}, reply.Reply.Reply}
 use Rattle.race_tool.specs.{Outcome.{Answers, IsOfAFinding, ReadsWhere}, Reply.{reply_text, reply_status}, Run.IsProgramWhere}
 use Rattle.race_tool.specs.Explore.{status_of_explored, explored_text, reaches_limit, IsExploring, IsUnexplored, EachRunIsClean, HasRunWhere, Explores}
@@ -153,20 +154,49 @@ deadlock_run End.Fault is = cc
 deadlock_run End.Limit is = cc
 deadlock_run (End.Bad g) is = cc
 
-module _ {A : Type 0} (program : ProgramState) (limit most : ℕ) (e : Explored A) (explored : IsExplored program limit most e) where
+-- what differs from a clean run only in the order of independent events is clean
+clean_alike : (r clean : RecordingState) → IsSameRun r clean → IsClean (trace_of clean) → IsClean (trace_of r)
+clean_alike r clean same is = is_clean (trace_of r) (legal, free)
+  where
+    caps : ℕ → ℕ
+    caps = capacities (trace_of clean)
+
+    same_caps : capacities (trace_of r) ≡ caps
+    same_caps = ap (λ (d : DeclsState). capacity_of d.declarations) same.decls
+
+    legal : IsLegal (capacities (trace_of r)) r.events
+    legal = subst (λ c. IsLegal c r.events) (sym same_caps) (other_orders_legal caps clean.events r.events (order_back same.events) is.legal)
+
+    free : IsDataRaceFree (capacities (trace_of r)) r.events
+    free = subst (λ c. IsDataRaceFree c r.events) (sym same_caps)
+        (λ x i j race. let (k, m, there) = (races_kept caps x same.events).0 (i, j, race) in is.race_free x k m there)
+
+module _ {A : Type 0} (program : ProgramState) (limit most : ℕ) (orders : Orders) (e : Explored A) (explored : IsExplored program limit most orders e) where
   looked_at : (k : ℕ) (looked : Looked) → slice_get explored.seen k ≡ Some looked → IsLooked program limit looked
   looked_at k looked at =
       subst (IsLooked program limit) (get_or_from_slice_get explored.seen k looked looked at)
       (explored.looked k looked (slice_get_within explored.seen k looked at))
 
-  each_is_clean : e.whole ≡ true → e.runs ≤ e.clean → EachRunIsClean limit program
-  each_is_clean whole all picks r by_picks =
-      let (k, looked, at, same) = explored.whole whole picks r by_picks in
+  -- where all that were looked at are clean, so is this one
+  clean_looked : e.runs ≤ e.clean → (k : ℕ) (looked : Looked) → slice_get explored.seen k ≡ Some looked
+      → IsClean (trace_of looked.run) × (looked.run.end ≡ End.Main)
+  clean_looked all k looked at =
       let runs = explored.counts.runs in
       let clean = explored.counts.clean in
       let passes = all_counted (λ (l : Looked). is_clean_run l.verdict l.run.end) explored.seen (omega (arith, all, runs, clean)) k looked at in
-      subst (λ (s : RecordingState). IsClean (trace_of s) × (s.end ≡ End.Main)) same
-      (clean_run looked.run looked.verdict looked.run.end passes (looked_at k looked at).verdict)
+      clean_run looked.run looked.verdict looked.run.end passes (looked_at k looked at).verdict
+
+  each_is_clean : e.whole ≡ true → e.runs ≤ e.clean → EachRunIsClean limit program
+  each_is_clean whole all = by orders (explored.whole whole)
+    where
+      by : (o : Orders) → EachWanted program limit o explored.seen → EachRunIsClean limit program
+      by Orders.All each = λ picks r by_picks.
+          let (k, looked, at, same) = each picks r by_picks in
+          subst (λ (s : RecordingState). IsClean (trace_of s) × (s.end ≡ End.Main)) same (clean_looked all k looked at)
+      by Orders.One each = λ picks r by_picks.
+          let (k, looked, at, same) = each picks r by_picks in
+          let (clean, end) = clean_looked all k looked at in
+          (clean_alike r looked.run same clean, same.end ∙ end)
 
   -- a run that was looked at and passes the test
   one_passes : (test : Looked → Bool) (Holds : RecordingState → Type 0) → 0 < count_by test explored.seen
@@ -178,7 +208,7 @@ module _ {A : Type 0} (program : ProgramState) (limit most : ℕ) (e : Explored 
 
 -- what a status that is no text fault's says of the bytes
 told : {A : Type 0} (o : ExploreOptions) (own : ℕ) (Holds : ProgramState → Type 0) → (status.TEXT_FAULT ≡ own → ⊥)
-    → ((found : ExploredProgram A) → IsExplored found.program o.limit o.runs found.explored → status_of_explored found.explored ≡ own → Holds found.program)
+    → ((found : ExploredProgram A) → IsExplored found.program o.limit o.runs o.orders found.explored → status_of_explored found.explored ≡ own → Holds found.program)
     → (reply : Reply (ExploredProgram A)) (bytes : List ℕ) → IsExploring o bytes reply
     → reply_status (λ found. status_of_explored found.explored) reply ≡ own → IsProgramWhere Holds bytes
 told o own Holds other says (Reply.Faulty fault) bytes right is = absurd (other is)
@@ -192,7 +222,7 @@ module _ {A R W : Type 0} (o : ExploreOptions) (remaining : R → Option (List �
     (answers : Answers program_causes (IsExploring {A = A} o) (reply_text explored_text) (reply_status (λ found. status_of_explored found.explored))
     (IsUnexplored o.limit) remaining contents source source_now sink sink_now answer) where
   reads : (own : ℕ) (Holds : ProgramState → Type 0) → answer ≡ own → IsOfAFinding own → (status.TEXT_FAULT ≡ own → ⊥)
-      → ((found : ExploredProgram A) → IsExplored found.program o.limit o.runs found.explored → status_of_explored found.explored ≡ own → Holds found.program)
+      → ((found : ExploredProgram A) → IsExplored found.program o.limit o.runs o.orders found.explored → status_of_explored found.explored ≡ own → Holds found.program)
       → ReadsWhere (IsProgramWhere Holds) (unread remaining source) (unread remaining source_now)
   reads own Holds is finding other says =
       reads_where program_causes (IsExploring {A = A} o) (reply_text explored_text) (reply_status (λ found. status_of_explored found.explored))
@@ -210,36 +240,36 @@ module _ {A R W : Type 0} (o : ExploreOptions) (remaining : R → Option (List �
         (λ e. absurd (omega (arith, e))) deadlock_says;
   }
     where
-      clean_says : (found : ExploredProgram A) → IsExplored found.program o.limit o.runs found.explored
+      clean_says : (found : ExploredProgram A) → IsExplored found.program o.limit o.runs o.orders found.explored
           → status_of_explored found.explored ≡ status.CLEAN → EachRunIsClean o.limit found.program
       clean_says found explored is =
           let e = found.explored in
           let tests = chosen_clean (nat_lt 0 e.races) (nat_lt 0 e.faults) (nat_lt 0 e.deadlocks) (not e.whole || reaches_limit e.bad.items) (nat_lt e.clean e.runs) is in
-          each_is_clean found.program o.limit o.runs e explored (is_whole e.whole (reaches_limit e.bad.items) tests.0) (not_above e.clean e.runs tests.1)
+          each_is_clean found.program o.limit o.runs o.orders e explored (is_whole e.whole (reaches_limit e.bad.items) tests.0) (not_above e.clean e.runs tests.1)
 
-      racy_says : (found : ExploredProgram A) → IsExplored found.program o.limit o.runs found.explored
+      racy_says : (found : ExploredProgram A) → IsExplored found.program o.limit o.runs o.orders found.explored
           → status_of_explored found.explored ≡ status.RACES → HasRunWhere o.limit (λ r. IsRacy (trace_of r)) found.program
       racy_says found explored is =
           let e = found.explored in
           let test = chosen_races (nat_lt 0 e.races) (nat_lt 0 e.faults) (nat_lt 0 e.deadlocks) (not e.whole || reaches_limit e.bad.items) (nat_lt e.clean e.runs) is in
           let count = explored.counts.races in
-          one_passes found.program o.limit o.runs e explored (λ l. is_racy_verdict l.verdict) (λ r. IsRacy (trace_of r))
+          one_passes found.program o.limit o.runs o.orders e explored (λ l. is_racy_verdict l.verdict) (λ r. IsRacy (trace_of r))
           (subst (λ n. 0 < n) count (above e.races test)) (λ looked is passes. racy_verdict looked.run looked.verdict passes is.verdict)
 
-      failed_says : (found : ExploredProgram A) → IsExplored found.program o.limit o.runs found.explored
+      failed_says : (found : ExploredProgram A) → IsExplored found.program o.limit o.runs o.orders found.explored
           → status_of_explored found.explored ≡ status.FAILED → HasRunWhere o.limit (λ r. r.end ≡ End.Fault) found.program
       failed_says found explored is =
           let e = found.explored in
           let test = chosen_failed (nat_lt 0 e.races) (nat_lt 0 e.faults) (nat_lt 0 e.deadlocks) (not e.whole || reaches_limit e.bad.items) (nat_lt e.clean e.runs) is in
           let count = explored.counts.faults in
-          one_passes found.program o.limit o.runs e explored (λ l. is_fault_end l.run.end) (λ r. r.end ≡ End.Fault)
+          one_passes found.program o.limit o.runs o.orders e explored (λ l. is_fault_end l.run.end) (λ r. r.end ≡ End.Fault)
           (subst (λ n. 0 < n) count (above e.faults test)) (λ looked is passes. fault_run looked.run.end passes)
 
-      deadlock_says : (found : ExploredProgram A) → IsExplored found.program o.limit o.runs found.explored
+      deadlock_says : (found : ExploredProgram A) → IsExplored found.program o.limit o.runs o.orders found.explored
           → status_of_explored found.explored ≡ status.DEADLOCK → HasRunWhere o.limit (λ r. r.end ≡ End.Deadlock) found.program
       deadlock_says found explored is =
           let e = found.explored in
           let test = chosen_deadlock (nat_lt 0 e.races) (nat_lt 0 e.faults) (nat_lt 0 e.deadlocks) (not e.whole || reaches_limit e.bad.items) (nat_lt e.clean e.runs) is in
           let count = explored.counts.deadlocks in
-          one_passes found.program o.limit o.runs e explored (λ l. is_deadlock_end l.run.end) (λ r. r.end ≡ End.Deadlock)
+          one_passes found.program o.limit o.runs o.orders e explored (λ l. is_deadlock_end l.run.end) (λ r. r.end ≡ End.Deadlock)
           (subst (λ n. 0 < n) count (above e.deadlocks test)) (λ looked is passes. deadlock_run looked.run.end passes)

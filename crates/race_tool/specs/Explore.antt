@@ -1,5 +1,5 @@
 -- Which reply is right where all runs of a program are looked at, what is printed of it, and its status.
-use Rattle.std.specs.Prelude.{ℕ, ◌≡◌, ◌++◌, ◌||◌, not, nat_lt, if◌then◌else◌, Bool, true, false, List, [], ◌∷◌, codes, decimal, Option, Some}
+use Rattle.std.specs.Prelude.{ℕ, ◌≡◌, ◌==◌, ◌-◌, ◌++◌, ◌||◌, not, nat_lt, if◌then◌else◌, Bool, true, false, List, [], ◌∷◌, codes, decimal, Option, Some}
 use Rattle.std.specs.List.{concat, flat_map, list_any}
 use Rattle.race_records.specs.{declared.{source.Source.Source, sink.Sink.Sink}, Declarations.DeclsState, Devices.unread}
 use Rattle.race_text.specs.Text.{goroutine_name, var_name, place_text}
@@ -72,17 +72,23 @@ bad_line decls all b =
 
 -- there are more runs
 abbrev pub stopped_line : Bool → ℕ → List ℕ
-stopped_line whole runs = if whole then [] else concat (codes "stopped after " ∷ decimal runs ∷ codes " runs\n" ∷ [])
+stopped_line whole made = if whole then [] else concat (codes "stopped after " ∷ decimal made ∷ codes " runs\n" ∷ [])
 
--- how many runs there are, and of each kind
+-- how many of the runs that were made were skipped, if any
+abbrev pub skipped_line : ℕ → List ℕ
+skipped_line skipped =
+    if skipped == 0 then []
+    else concat (codes "skipped: " ∷ decimal skipped ∷ codes " runs that differ from others only in the order of independent steps\n" ∷ [])
+
+-- how many runs were judged, and of each kind
 abbrev pub counts_line : {A : Type 0} → Explored A → List ℕ
 counts_line e =
     concat (codes "runs: " ∷ decimal e.runs ∷ codes ", clean: " ∷ decimal e.clean ∷ codes ", races: " ∷ decimal e.races
     ∷ codes ", deadlocks: " ∷ decimal e.deadlocks ∷ codes ", faults: " ∷ decimal e.faults ∷ newline ∷ [])
 
--- whether there are more runs, and how many there are
+-- whether there are more runs, how many were skipped, and how many were judged
 abbrev pub totals_text : {A : Type 0} → Explored A → List ℕ
-totals_text e = stopped_line e.whole e.runs ++ counts_line e
+totals_text e = stopped_line e.whole e.made ++ (skipped_line (e.made - e.runs) ++ counts_line e)
 
 -- what the runs come to, by the program's declarations
 abbrev pub runs_text : {A : Type 0} → DeclsState → Explored A → List ℕ
@@ -112,7 +118,7 @@ status_of_explored e =
 abbrev pub IsExploring : {A : Type 0} → ExploreOptions → List ℕ → Reply (ExploredProgram A) → Type 0
 IsExploring o bytes (Reply.Faulty fault) = text_fault bytes ≡ Some fault
 IsExploring o bytes (Reply.Found found) =
-    IsTextOf found.program bytes × IsExplored found.program o.limit o.runs found.explored
+    IsTextOf found.program bytes × IsExplored found.program o.limit o.runs o.orders found.explored
 IsExploring o bytes _ = ⊥
 
 -- the bytes are the text of a program of which a run can't be recorded
@@ -130,7 +136,7 @@ pub record HasRunWhere (limit : ℕ) (Holds : RecordingState → Type 0) (progra
   pub by_picks : IsRunBy program limit picks run
   pub holds : Holds run
 
--- all runs of a program were looked at, or as many as were wanted. With CLEAN no run at all has a race, and main returns in each; with RACES
+-- all runs of a program were looked at, or one order of each, or as many as were wanted. With CLEAN no run at all has a race, and main returns in each; with RACES
 -- one has a race; with FAILED and DEADLOCK one ends so
 pub record Explores (A : Type 0) {R W : Type 0} (o : ExploreOptions) (remaining : R → Option (List ℕ)) (contents : W → Option (List ℕ))
     (source source_now : Source R) (sink sink_now : Sink W) (answer : ℕ) : Type 0 where

@@ -1,5 +1,6 @@
 //! The engine of `gorace explore`: a program's text in, what all its runs come to out.
 ghost use Rattle.std.specs.Prelude.{◌≡◌, true, false};
+ghost use Rattle.race_explore.specs.declared.orders.Orders.{Orders};
 ghost use Rattle.race_script.specs.Text.{IsTextOf};
 ghost use Rattle.race_tool.specs.Outcome.{Replies};
 ghost use Rattle.race_tool.specs.Explore as spec;
@@ -10,7 +11,7 @@ use crate::explore_printing::write_explored;
 use crate::input::read_text;
 use crate::reply::{Reply, Shown};
 use crate::status;
-use race_explore::{BadEnd, ExploreFault, Explored, MAX_RUNS, explore};
+use race_explore::{BadEnd, ExploreFault, Explored, MAX_RUNS, Orders, explore};
 use race_hub::End;
 use race_records::{MAX_EVENTS, Sink, Source, WriteFault};
 use race_script::{Program, Reader};
@@ -20,21 +21,25 @@ use std::io::{Read, Write};
 /// How the runs of a program are looked at.
 #[derive(Clone, Copy, Debug, PartialEq, Eq)]
 pub struct ExploreOptions {
-    /// How many runs are looked at, at most, 1 to 1,000,000,000,000.
+    /// How many runs are made, at most, 1 to 1,000,000,000,000.
     pub runs: u64,
     /// How many events a run may have, 1 to 16,777,216.
     pub limit: u32,
+    /// Whether all runs are judged, or of those that differ only in the order of independent steps one at least.
+    pub orders: Orders,
 }
 
 impl Default for ExploreOptions {
-    /// A million runs, and the greatest limit.
+    /// A million runs, the greatest limit, and all orders.
     fn default() -> ExploreOptions
         ensures runs { result.runs ≡ 1_000_000 }
         ensures limit { result.limit ≡ MAX_EVENTS }
+        ensures orders { result.orders ≡ Orders.All }
     {
         ExploreOptions {
             runs: 1_000_000,
             limit: MAX_EVENTS as u32,
+            orders: Orders::All,
         }
     }
 }
@@ -105,7 +110,14 @@ impl<A: Allocator + Copy + Send> Exploring<A> {
         ensures { Replies IsTextOf (spec.IsExploring self.now.options)
             (spec.IsUnexplored self.now.options.limit) program result }
     {
-        match explore(self.alloc, &program, self.options.limit, self.options.runs) {
+        let options = self.options;
+        match explore(
+            self.alloc,
+            &program,
+            options.limit,
+            options.runs,
+            options.orders,
+        ) {
             Ok(explored) => Ok(Reply::Found(ExploredProgram { program, explored })),
             Err(fault) => Err(no_finding(fault)),
         }

@@ -1,5 +1,5 @@
 //! What is printed of the runs of a program.
-ghost use Rattle.std.specs.Prelude.{◌≡◌, ◌++◌, codes};
+ghost use Rattle.std.specs.Prelude.{◌≡◌, ◌++◌, ◌-◌, codes};
 ghost use Rattle.std.specs.List.{flat_map};
 ghost use Rattle.race_records.specs.Page.{Printing};
 ghost use Rattle.race_text.specs.Output.{Writes};
@@ -15,7 +15,7 @@ use std::alloc::Allocator;
 use std::io::Write;
 
 /// Writes a line for each variable with a race and for each end other than main's return, whether there are more runs,
-/// and the counts.
+/// how many were skipped, and the counts.
 pub(crate) fn write_explored<W: Write, A: Allocator, B: Allocator>(
     decls: &Decls<A>,
     explored: &Explored<B>,
@@ -372,7 +372,7 @@ fn print_pick<W: Write>(
     page.put_all(sink, &parts)
 }
 
-// Prints whether there are more runs, and the counts.
+// Prints whether there are more runs, how many were skipped, and the counts.
 fn print_totals<W: Write, A: Allocator>(
     page: &mut Page,
     sink: &mut Sink<W>,
@@ -380,19 +380,53 @@ fn print_totals<W: Write, A: Allocator>(
 ) -> Result<(), WriteFault>
     ensures { Printing W.contents result sink.old sink.new page.old page.new (spec.totals_text explored.now) }
 {
-    match print_stopped(page, sink, explored.whole, explored.runs) {
+    match print_stopped(page, sink, explored.whole, explored.made) {
+        Ok(()) => print_skipped_and_counts(page, sink, explored),
+        Err(fault) => Err(fault),
+    }
+}
+
+// Prints how many runs were skipped, and the counts.
+fn print_skipped_and_counts<W: Write, A: Allocator>(
+    page: &mut Page,
+    sink: &mut Sink<W>,
+    explored: &Explored<A>,
+) -> Result<(), WriteFault>
+    ensures { Printing W.contents result sink.old sink.new page.old page.new
+        (spec.skipped_line (explored.now.made - explored.now.runs) ++ spec.counts_line explored.now) }
+{
+    match print_skipped(page, sink, explored.skipped()) {
         Ok(()) => print_counts(page, sink, explored),
         Err(fault) => Err(fault),
     }
+}
+
+fn print_skipped<W: Write>(
+    page: &mut Page,
+    sink: &mut Sink<W>,
+    skipped: u64,
+) -> Result<(), WriteFault>
+    ensures { Printing W.contents result sink.old sink.new page.old page.new (spec.skipped_line skipped) }
+{
+    if skipped == 0 {
+        return Ok(());
+    }
+    let mut number = Buffer::new();
+    let parts = [
+        b"skipped: ".as_slice(),
+        number.format(skipped).as_bytes(),
+        b" runs that differ from others only in the order of independent steps\n".as_slice(),
+    ];
+    page.put_all(sink, &parts)
 }
 
 fn print_stopped<W: Write>(
     page: &mut Page,
     sink: &mut Sink<W>,
     whole: bool,
-    runs: u64,
+    made: u64,
 ) -> Result<(), WriteFault>
-    ensures { Printing W.contents result sink.old sink.new page.old page.new (spec.stopped_line whole runs) }
+    ensures { Printing W.contents result sink.old sink.new page.old page.new (spec.stopped_line whole made) }
 {
     if whole {
         return Ok(());
@@ -400,7 +434,7 @@ fn print_stopped<W: Write>(
     let mut number = Buffer::new();
     let parts = [
         b"stopped after ".as_slice(),
-        number.format(runs).as_bytes(),
+        number.format(made).as_bytes(),
         b" runs\n".as_slice(),
     ];
     page.put_all(sink, &parts)

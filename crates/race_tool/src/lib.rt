@@ -37,7 +37,7 @@ pub use explain::run_explain;
 pub use explore::{ExploreOptions, run_explore};
 pub use predict::{MAX_PREDICTED, PredictOptions, run_predict};
 pub use race::run_race;
-pub use race_explore::MAX_RUNS;
+pub use race_explore::{MAX_RUNS, Orders};
 pub use race_record::MAX_WORKERS;
 pub use race_shards::{MAX_BLOCK, MAX_SHARDS};
 pub use run::{RunOptions, run_run};

@@ -1,10 +1,10 @@
 //! Why an event on a channel breaks its rule, and which case of a select is ready.
 
 use crate::illegal::{put_later, put_since};
-use crate::names::{name_of, who_at};
+use crate::names::{declared_in, name_of, who_at};
 use crate::past::{Deed, count_before, first_after, front, last_before, waiting};
-use crate::put::{put, put_at, put_number_in};
-use crate::rule::value_of;
+use crate::put::{put, put_at, put_number, put_number_in};
+use crate::values::{put_either, value_of};
 use race_legal::Rule;
 use race_records::{Case, Dir, Kind, Named, Op, Trace};
 use std::alloc::{AllocError, Allocator};
@@ -44,9 +44,10 @@ fn put_full<A: Allocator, B: Allocator>(
     at: u32,
     chan: u32,
 ) -> Result<(), AllocError> {
-    put_waiting(out, trace, at, chan, ", in whose buffer ")?;
-    put_number_in(out, ", and its capacity is ", capacity(trace, chan), "")?;
-    put_missing_receive(out, trace, at, chan)
+    put_capacity(out, trace, chan)?;
+    put_waiting(out, trace, at, chan, ", and in whose buffer ")?;
+    put_missing_receive(out, trace, at, chan)?;
+    put(out, &[", or the capacity is too small"])
 }
 
 // A recvclosed from an open channel.
@@ -102,6 +103,21 @@ fn capacity<A: Allocator>(trace: &Trace<A>, chan: u32) -> u64 {
     }
 }
 
+// Which line declares the channel, and with which capacity.
+fn put_capacity<A: Allocator, B: Allocator>(
+    out: &mut Vec<u8, A>,
+    trace: &Trace<B>,
+    chan: u32,
+) -> Result<(), AllocError> {
+    match declared_in(trace.decls(), Named::Chan(chan)) {
+        Some((_, line)) => {
+            put_number_in(out, ", which line ", line, " declares with capacity ")?;
+            put_number(out, capacity(trace, chan))
+        }
+        None => Ok(()),
+    }
+}
+
 // How many values wait in the channel's buffer.
 fn put_waiting<A: Allocator, B: Allocator>(
     out: &mut Vec<u8, A>,
@@ -125,18 +141,17 @@ fn put_wrong_form<A: Allocator, B: Allocator>(
     op: &Op,
     chan: u32,
 ) -> Result<(), AllocError> {
-    let capacity = capacity(trace, chan);
-    put_number_in(out, ", whose capacity is ", capacity, ": ")?;
+    put_capacity(out, trace, chan)?;
     put(
         out,
-        &[if capacity == 0 {
-            "without a buffer a send and its receive are one event, a meet"
+        &[if capacity(trace, chan) == 0 {
+            ": without a buffer a send and its receive are one event, a meet"
         } else {
-            "with a buffer a send and its receive are two events, and there are no meets"
+            ": with a buffer a send and its receive are two events, and there are no meets"
         }],
     )?;
     match (op, last_before(trace, at, Deed::Closes(chan))) {
-        (Op::Recv(_, _), Some(close)) => put_closed(out, trace, close),
+        (Op::Recv(_, 0), Some(close)) => put_closed(out, trace, close),
         _ => Ok(()),
     }
 }
@@ -166,16 +181,42 @@ fn put_missing_receive<A: Allocator, B: Allocator>(
     let receives = Deed::Receives(chan);
     match front(trace, at, chan) {
         Some(send) => {
-            put_later(out, trace, at, receives, " receives", "")?;
-            let or = if first_after(trace, at, receives).is_some() {
-                ", or a recv of "
-            } else {
-                "; a recv of "
-            };
-            put_number_in(out, or, value_of(trace, send), " may be missing before it")
+            put_late(out, trace, at, receives, " receives")?;
+            put_number_in(
+                out,
+                "a recv of ",
+                value_of(trace, send),
+                " may be missing before it",
+            )
         }
         None => Ok(()),
     }
+}
+
+// Which event sends only later the value that the receive finds, and that a send of it may be missing.
+fn put_missing_send<A: Allocator, B: Allocator>(
+    out: &mut Vec<u8, A>,
+    trace: &Trace<B>,
+    at: u32,
+    chan: u32,
+) -> Result<(), AllocError> {
+    let value = value_of(trace, at);
+    let sends = Deed::SendsValue(chan, value);
+    put_late(out, trace, at, sends, " sends this value")?;
+    put_number_in(out, "a send of ", value, " may be missing before it")
+}
+
+// Which event does only later what is missing, where one does, before what else may be.
+fn put_late<A: Allocator, B: Allocator>(
+    out: &mut Vec<u8, A>,
+    trace: &Trace<B>,
+    at: u32,
+    deed: Deed,
+    what: &str,
+) -> Result<(), AllocError> {
+    put_later(out, trace, at, deed, what, "")?;
+    let is_late = first_after(trace, at, deed).is_some();
+    put(out, &[if is_late { ", or " } else { "; " }])
 }
 
 fn put_empty<A: Allocator, B: Allocator>(
@@ -194,28 +235,10 @@ fn put_empty<A: Allocator, B: Allocator>(
     )?;
     let received = count_before(trace, at, Deed::Receives(chan));
     put_number_in(out, "", u64::from(received), " received")?;
-    if let Some(close) = last_before(trace, at, Deed::Closes(chan)) {
-        return put_closed(out, trace, close);
+    match (op, last_before(trace, at, Deed::Closes(chan))) {
+        (Op::Recv(_, 0), Some(close)) => put_closed(out, trace, close),
+        _ => put_missing_send(out, trace, at, chan),
     }
-    put_missing_send(out, trace, at, op, chan)
-}
-
-// Which event sends only later the value that the receive finds, or that a send of it may be missing.
-fn put_missing_send<A: Allocator, B: Allocator>(
-    out: &mut Vec<u8, A>,
-    trace: &Trace<B>,
-    at: u32,
-    op: &Op,
-    chan: u32,
-) -> Result<(), AllocError> {
-    let Op::Recv(_, value) = op else {
-        return Ok(());
-    };
-    let sends = Deed::SendsValue(chan, *value);
-    if first_after(trace, at, sends).is_some() {
-        return put_later(out, trace, at, sends, " sends this value", "");
-    }
-    put_number_in(out, "; a send of ", *value, " may be missing before it")
 }
 
 fn put_wrong_value<A: Allocator, B: Allocator>(
@@ -230,42 +253,18 @@ fn put_wrong_value<A: Allocator, B: Allocator>(
     };
     put_number_in(out, " finds ", *value, "")?;
     put_front(out, trace, at, chan)?;
+    let Some(send) = front(trace, at, chan) else {
+        return Ok(());
+    };
     if last_before(trace, at, Deed::SendsValue(chan, *value)).is_none() {
-        return put_unsent(out, trace, at, chan, *value);
+        put_missing_send(out, trace, at, chan)?;
+    } else {
+        let first = value_of(trace, send);
+        let receives = Deed::ReceivesValue(chan, first);
+        put_late(out, trace, at, receives, " receives it")?;
+        put_number_in(out, "a recv of ", first, " may be missing before it")?;
     }
-    match front(trace, at, chan) {
-        Some(send) => {
-            put_number_in(
-                out,
-                "; ",
-                value_of(trace, send),
-                " is wanted here, or a recv of it before",
-            )
-        }
-        None => Ok(()),
-    }
-}
-
-// Which event sends the value only later, or that none does.
-fn put_unsent<A: Allocator, B: Allocator>(
-    out: &mut Vec<u8, A>,
-    trace: &Trace<B>,
-    at: u32,
-    chan: u32,
-    value: u64,
-) -> Result<(), AllocError> {
-    match first_after(trace, at, Deed::SendsValue(chan, value)) {
-        Some(later) => {
-            put_at(out, trace, "; ", later, "")?;
-            put_number_in(out, " sends ", value, ", but comes later")
-        }
-        None => put_number_in(
-            out,
-            "; no event sends ",
-            value,
-            ", so a send of it may be missing before, or the value is wrong",
-        ),
-    }
+    put_either(out, trace, send, at)
 }
 
 // Which value waits longest, and who sent it.
@@ -342,9 +341,50 @@ fn put_ready_case<A: Allocator, B: Allocator>(
             " is ready, so no default is taken: ",
         ],
     )?;
-    if let Some(close) = last_before(trace, at, Deed::Closes(chan)) {
-        return put_at(out, trace, "", close, " closed the channel");
+    let close = last_before(trace, at, Deed::Closes(chan));
+    match (close, case.dir) {
+        (Some(close), _) => put_at(out, trace, "", close, " closed the channel")?,
+        (None, Dir::Send) => put_room(out, trace, at, chan)?,
+        (None, Dir::Recv) => {
+            put_waiting(out, trace, at, chan, "in its buffer ")?;
+            put_front(out, trace, at, chan)?;
+            put_missing_receive(out, trace, at, chan)?;
+        }
     }
-    put_waiting(out, trace, at, chan, "in its buffer ")?;
-    put_number_in(out, ", and its capacity is ", capacity(trace, chan), "")
+    put(
+        out,
+        &[
+            "; if the select did it, write ",
+            word_of(case.dir, close.is_some()),
+        ],
+    )
+}
+
+// How a case is written that was done.
+fn word_of(dir: Dir, is_closed: bool) -> &'static str {
+    match (dir, is_closed) {
+        (Dir::Send, false) => "send",
+        (Dir::Recv, false) => "recv",
+        (Dir::Send, true) => "fault",
+        (Dir::Recv, true) => "recvclosed",
+    }
+}
+
+// That a buffer has room.
+fn put_room<A: Allocator, B: Allocator>(
+    out: &mut Vec<u8, A>,
+    trace: &Trace<B>,
+    at: u32,
+    chan: u32,
+) -> Result<(), AllocError> {
+    put(
+        out,
+        &["in the buffer of ", name_of(trace, Named::Chan(chan))],
+    )?;
+    put_capacity(out, trace, chan)?;
+    put_waiting(out, trace, at, chan, ", ")?;
+    put(
+        out,
+        &["; a send on it may be missing before, or the capacity is too large"],
+    )
 }

@@ -1,5 +1,6 @@
 //! What a clean trace has, and what no rule can see of it.
 
+use crate::holding::put_held_at_end;
 use crate::names::{name_of, numbered};
 use crate::past::{Deed, last_before};
 use crate::put::{put, put_at, put_number_in};
@@ -22,7 +23,7 @@ const KINDS: [(Kind, &str, &str); 5] = [
     (Kind::Once, ", onces ", "onces that no event names: "),
 ];
 
-/// Puts how many of what is declared is used, what isn't, and whether the run ended.
+/// Puts how many of what is declared is used, what isn't, which locks are held at the end, and whether the run ended.
 pub(crate) fn put_seen<A: Allocator + Copy, B: Allocator>(
     out: &mut Vec<u8, A>,
     trace: &Trace<B>,
@@ -37,6 +38,7 @@ pub(crate) fn put_seen<A: Allocator + Copy, B: Allocator>(
     }
     put(out, &["\n"])?;
     out.extend_from_slice(unused.as_slice())?;
+    put_held_at_end(out, trace)?;
     put_end(out, trace)
 }
 

@@ -1,16 +1,17 @@
 //! A line with too many words or too few: where it is marked, and what is said of it.
 
-use crate::cut_off::is_cut_off;
+use crate::cut_off::{is_cut_off, line_after_word, put_cut_before};
 use crate::field::{fields_of, one_of, put_fields};
 use crate::line::put_quoted;
+use crate::operand::object_of;
 use crate::put::{put, put_number_in};
 use crate::word::{column_in, from_word};
-use race_records::{Decls, Trace};
+use race_records::{Decls, OperandKind, Trace};
 use race_text::{Field, Word, cut_at, fields_cause, split_words, word_named};
 use std::alloc::{AllocError, Allocator};
 
 /// The longest word that begins a line.
-const LONGEST: usize = 10;
+pub(crate) const LONGEST: usize = 10;
 
 /// The longest place.
 const LONGEST_PLACE: usize = 128;
@@ -22,8 +23,8 @@ pub(crate) fn count_column<A: Allocator>(before: Option<&Trace<A>>, line: &[u8])
         return 0;
     };
     let fields = fields_of(word);
-    if let Some(joined) = joined_line(fields.len(), line) {
-        return column_in(line, joined);
+    if let Some(part) = inner_line(before, fields.len(), line) {
+        return column_in(line, part);
     }
     if before.is_some_and(|trace| is_cut_off(trace, fields.as_slice(), line)) {
         return line.len();
@@ -66,13 +67,29 @@ fn spare_blank(line: &[u8]) -> Option<usize> {
     None
 }
 
-// The line that begins after as many words as are wanted, or within the last of them, where a newline is missing.
+// The line that begins within this one, after a whole one or after one that is cut off.
+fn inner_line<'a, A: Allocator>(
+    before: Option<&Trace<A>>,
+    wanted: usize,
+    line: &'a [u8],
+) -> Option<&'a [u8]> {
+    match joined_line(wanted, line) {
+        Some(part) => Some(part),
+        None => line_after_word(before, line),
+    }
+}
+
+// The line that begins after as many words as are wanted, or within the last of them, where a newline is missing. Where
+// the last one begins a line itself, none begins within it: runlock ends as unlock.
 fn joined_line(wanted: usize, line: &[u8]) -> Option<&[u8]> {
     let last = from_word(line, wanted)?;
     let (word, others) = cut_at(last, b' ');
     let others = others?;
     if is_whole(others) {
         return Some(others);
+    }
+    if is_whole(last) {
+        return None;
     }
     for start in word.len().saturating_sub(LONGEST).max(1)..word.len() {
         let part = &last[start.min(last.len())..];
@@ -100,11 +117,28 @@ fn misfit<A: Allocator>(decls: &Decls<A>, fields: &[Field], line: &[u8]) -> Opti
     for number in 0..fitting(decls, fields, line).saturating_add(1) {
         let others = &fields[number.saturating_add(missing).min(fields.len())..];
         let rest = from_word(line, number.saturating_add(spare).saturating_add(1));
-        if fields_cause(decls, others, rest).is_none() {
+        let is_spaced = spare > 0 && number == fields.len();
+        if fields_cause(decls, others, rest).is_none()
+            && !(is_spaced && found.is_some() && is_operand(decls, line, number))
+        {
             found = Some(number);
         }
     }
     found
+}
+
+// Whether the word before the one of this number is hardly a part of a place, but a value, a name, or begins a line.
+fn is_operand<A: Allocator>(decls: &Decls<A>, line: &[u8], number: usize) -> bool {
+    match from_word(line, number) {
+        Some(bytes) => {
+            let word = cut_at(bytes, b' ').0;
+            let value = Field::Operand(OperandKind::Value);
+            word_named(word).is_some()
+                || fields_cause(decls, &[value], Some(word)).is_none()
+                || object_of(decls, word).is_some()
+        }
+        None => false,
+    }
 }
 
 /// How many words after the first are what is wanted there, before one that isn't.
@@ -150,6 +184,10 @@ pub(crate) fn put_count<A: Allocator, B: Allocator>(
     if let Some(joined) = joined_line(fields.len(), line) {
         put(out, &["; a newline may be missing before "])?;
         return put_quoted(out, cut_at(joined, b' ').0);
+    }
+    if let Some(part) = line_after_word(before, line) {
+        put(out, &["; "])?;
+        return put_cut_before(out, part);
     }
     if before.is_some_and(|trace| is_cut_off(trace, fields.as_slice(), line)) {
         return put(out, &["; the line seems to be cut off at the mark"]);
@@ -267,8 +305,12 @@ fn put_spaced_place<A: Allocator>(
     if fields.last().copied() != Some(Field::Place) {
         return Ok(());
     }
+    let place = from_word(line, fields.len());
+    if place.is_some_and(|words| is_twice(words)) {
+        return Ok(());
+    }
     put(out, &[", or a place with a blank, which no place has: "])?;
-    match from_word(line, fields.len()) {
+    match place {
         Some(place) => if place.len() <= LONGEST_PLACE && !has_two_places(fields) {
             put(out, &["write "])?;
             put_joined(out, place)
@@ -277,6 +319,12 @@ fn put_spaced_place<A: Allocator>(
         },
         None => Ok(()),
     }
+}
+
+// Whether two words are the same.
+fn is_twice(words: &[u8]) -> bool {
+    let (first, others) = cut_at(words, b' ');
+    others.is_some_and(|second| second == first)
 }
 
 fn has_two_places(fields: &[Field]) -> bool {

@@ -1,12 +1,18 @@
 //! A line that ends too early.
 
-use crate::count::{count_words, fitting};
+use crate::count::{LONGEST, count_words, fitting};
+use crate::field::fields_of;
+use crate::line::put_quoted;
 use crate::names::{name_of, numbered};
 use crate::operand::{is_list, wanted_kind};
-use crate::word::{FaultyWord, from_word};
-use race_records::{Kind, Trace};
-use race_text::Field;
-use std::alloc::Allocator;
+use crate::put::put;
+use crate::word::{FaultyWord, column_in, from_word};
+use race_records::{Decls, Kind, Trace};
+use race_text::{Field, Word, cut_at, word_named};
+use std::alloc::{AllocError, Allocator};
+
+/// Two lines have fewer bytes.
+const TWO_LINES: usize = 4096;
 
 /// Whether the line seems to be cut off: its words are what is wanted, the last one maybe a prefix of it, and others are missing.
 /// Where only one is missing after whole words, it may have been forgotten.
@@ -69,4 +75,58 @@ fn begins_name<A: Allocator>(before: &Trace<A>, kind: Kind, part: &[u8]) -> bool
         }
     }
     false
+}
+
+/// The first line that begins within this one, at this column or later, and of which each word is what is wanted. Within an
+/// event it is no declaration: a once may be called once.
+pub(crate) fn line_within<'a, A: Allocator>(
+    before: Option<&Trace<A>>,
+    line: &'a [u8],
+    column: usize,
+) -> Option<&'a [u8]> {
+    let before = before?;
+    if line.len() > TWO_LINES {
+        return None;
+    }
+    let is_event = match word_named(cut_at(line, b' ').0) {
+        Some(Word::Does(_)) => true,
+        _ => false,
+    };
+    for start in column..line.len() {
+        if is_right(before.decls(), &line[start..], is_event) {
+            return Some(&line[start..]);
+        }
+    }
+    None
+}
+
+/// The same after the first word.
+pub(crate) fn line_after_word<'a, A: Allocator>(
+    before: Option<&Trace<A>>,
+    line: &'a [u8],
+) -> Option<&'a [u8]> {
+    let rest = cut_at(line, b' ').1?;
+    line_within(before, line, column_in(line, rest))
+}
+
+// Whether a whole line comes first, of which each word is what is wanted, and maybe an event alone.
+fn is_right<A: Allocator>(decls: &Decls<A>, bytes: &[u8], is_event: bool) -> bool {
+    let (first, rest) = cut_at(&bytes[..bytes.len().min(LONGEST + 1)], b' ');
+    let word = match word_named(first) {
+        None => return false,
+        Some(Word::Declares(_)) if is_event => return false,
+        Some(word) => word,
+    };
+    let fields = fields_of(word);
+    rest.is_some() && fitting(decls, fields.as_slice(), bytes) == fields.len()
+}
+
+/// Puts that the line is cut off before another one.
+pub(crate) fn put_cut_before<A: Allocator>(
+    out: &mut Vec<u8, A>,
+    part: &[u8],
+) -> Result<(), AllocError> {
+    put(out, &["the line seems to be cut off before "])?;
+    put_quoted(out, cut_at(part, b' ').0)?;
+    put(out, &[", with which a whole one begins"])
 }

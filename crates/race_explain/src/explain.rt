@@ -62,7 +62,6 @@ fn is_of_words(cause: TextCause) -> bool {
         TextCause::BadHeader => false,
         TextCause::NoNewline => false,
         TextCause::BadByte => false,
-        TextCause::UnknownWord => false,
         _ => true,
     }
 }

@@ -5,7 +5,7 @@ use crate::put::{put, put_at, put_number_in};
 use race_records::{Event, Named, Op, Trace};
 use std::alloc::{AllocError, Allocator};
 
-/// How many holders of a lock are listed at most.
+/// How many holders are listed at most.
 const LISTED: usize = 8;
 
 /// A lock that a goroutine locked and nobody has unlocked.
@@ -15,16 +15,19 @@ pub(crate) struct Holding {
     pub(crate) reading: bool,
     pub(crate) who: u32,
     pub(crate) place: u32,
-    at: u32,
+    /// The event that locked it.
+    pub(crate) at: u32,
+    /// Whether this was a try.
+    pub(crate) tried: bool,
 }
 
 // What the event at the index locks.
 fn locked_by(event: &Event, at: u32) -> Option<Holding> {
-    let (lock, reading) = match event.op {
-        Op::Lock(lock) => (lock, false),
-        Op::TryLock(lock) => (lock, false),
-        Op::RLock(lock) => (lock, true),
-        Op::TryRLock(lock) => (lock, true),
+    let (lock, reading, tried) = match event.op {
+        Op::Lock(lock) => (lock, false, false),
+        Op::TryLock(lock) => (lock, false, true),
+        Op::RLock(lock) => (lock, true, false),
+        Op::TryRLock(lock) => (lock, true, true),
         _ => return None,
     };
     Some(Holding {
@@ -33,6 +36,7 @@ fn locked_by(event: &Event, at: u32) -> Option<Holding> {
         who: event.who,
         place: event.place,
         at,
+        tried,
     })
 }
 
@@ -45,17 +49,19 @@ fn unlocked_by(event: &Event) -> Option<(u32, bool)> {
     }
 }
 
-// Which holding ends where the goroutine unlocks: its own, and else the last of another.
+// Which holding ends where the goroutine unlocks: its own last one, and else the last of another.
 fn ended(held: &[Holding], who: u32, lock: u32, reading: bool) -> Option<usize> {
     let mut found = None;
-    let mut is_own = false;
-    for index in 0..held.len() {
+    for back in 0..held.len() {
+        let index = held.len() - 1 - back;
         let holding = held[index];
         if holding.lock == lock && holding.reading == reading {
-            if holding.who == who || !is_own {
+            if holding.who == who {
+                return Some(index);
+            }
+            if found.is_none() {
                 found = Some(index);
             }
-            is_own = is_own || holding.who == who;
         }
     }
     found
@@ -112,9 +118,7 @@ pub(crate) fn put_holders<A: Allocator, B: Allocator>(
             count = count.saturating_add(1);
         }
     }
-    if count > LISTED {
-        put_number_in(out, ", and ", (count - LISTED) as u64, " more")?;
-    }
+    put_others(out, count)?;
     put(
         out,
         &[if is_own {
@@ -142,5 +146,60 @@ fn put_holder<A: Allocator, B: Allocator>(
     };
     let itself = if holding.who == who { " itself" } else { "" };
     put(out, &[how, goroutine(trace, holding.who), itself])?;
-    put_at(out, trace, " since ", holding.at, "")
+    put_beginning(out, trace, holding)
+}
+
+// Since which event it is held.
+fn put_beginning<A: Allocator, B: Allocator>(
+    out: &mut Vec<u8, A>,
+    trace: &Trace<B>,
+    holding: Holding,
+) -> Result<(), AllocError> {
+    let since = if holding.tried {
+        " since its try in "
+    } else {
+        " since "
+    };
+    put_at(out, trace, since, holding.at, "")
+}
+
+/// Puts which locks are held at the end of the trace, of many the first.
+pub(crate) fn put_held_at_end<A: Allocator + Copy, B: Allocator>(
+    out: &mut Vec<u8, A>,
+    trace: &Trace<B>,
+) -> Result<(), AllocError> {
+    let held = held_before(*out.allocator(), trace, u32::MAX)?;
+    let mut count = 0usize;
+    for holding in held.as_slice() {
+        if count < LISTED {
+            let front = if count == 0 {
+                "locks that are held at the end: "
+            } else {
+                ", "
+            };
+            put(out, &[front, name_of(trace, Named::Lock(holding.lock))])?;
+            put(
+                out,
+                &[if holding.reading {
+                    " for reading by "
+                } else {
+                    " by "
+                }],
+            )?;
+            put(out, &[goroutine(trace, holding.who)])?;
+            put_beginning(out, trace, *holding)?;
+        }
+        count = count.saturating_add(1);
+    }
+    put_others(out, count)?;
+    put(out, &[if count == 0 { "" } else { "\n" }])
+}
+
+// How many more there are than are listed.
+fn put_others<A: Allocator>(out: &mut Vec<u8, A>, count: usize) -> Result<(), AllocError> {
+    if count > LISTED {
+        put_number_in(out, ", and ", (count - LISTED) as u64, " more")
+    } else {
+        Ok(())
+    }
 }

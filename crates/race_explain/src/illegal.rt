@@ -2,9 +2,10 @@
 
 use crate::channel_rule::{put_channel_rule, put_ready};
 use crate::names::{event_at, goroutine, name_of, who_at};
-use crate::past::{Deed, first_after, last_before, runs_before};
+use crate::past::{Deed, first_after, last_before, last_own, runs_before};
 use crate::put::{put, put_at};
-use crate::rule::{put_lock_rule, put_once_rule, put_stale_read};
+use crate::rule::{put_lock_rule, put_once_rule};
+use crate::values::put_stale_read;
 use race_legal::{Illegal, Rule};
 use race_records::{Cause, Event, Named, Op, Trace};
 use std::alloc::{AllocError, Allocator};
@@ -43,7 +44,34 @@ pub(crate) fn put_reason<A: Allocator + Copy, B: Allocator>(
         Rule::NoFault => put_no_fault(out, trace, at, &event.op)?,
         _ => put_channel_rule(out, trace, at, &event.op, illegal.rule)?,
     }
+    put_repeated(out, trace, at, event)?;
     put(out, &["\n"])
+}
+
+// That the goroutine's event before this one is the same, where it is.
+fn put_repeated<A: Allocator, B: Allocator>(
+    out: &mut Vec<u8, A>,
+    trace: &Trace<B>,
+    at: u32,
+    event: &Event,
+) -> Result<(), AllocError> {
+    let Some(before) = last_own(trace, at, Deed::Acts) else {
+        return Ok(());
+    };
+    match event_at(trace, before) {
+        Some(other) => if *other == *event {
+            put_at(
+                out,
+                trace,
+                "; ",
+                before,
+                " is the same: one of the two lines may be too many",
+            )
+        } else {
+            Ok(())
+        },
+        None => Ok(()),
+    }
 }
 
 fn put_after_end<A: Allocator, B: Allocator>(
@@ -56,7 +84,7 @@ fn put_after_end<A: Allocator, B: Allocator>(
         Some(end) => {
             put_at(out, trace, "the run is over: ", end, " is ")?;
             put(out, &[who_at(trace, end), "'s "])?;
-            put(out, &[ending(trace, end), ", which ends it"])
+            put(out, &[ending(trace, end)])
         }
     }
 }
@@ -64,8 +92,8 @@ fn put_after_end<A: Allocator, B: Allocator>(
 fn ending<A: Allocator>(trace: &Trace<A>, at: u32) -> &'static str {
     match event_at(trace, at) {
         Some(event) => match event.op {
-            Op::Fault(_) => "fault",
-            _ => "exit",
+            Op::Fault(_) => "fault, which ends it; a panic that is recovered from is no event",
+            _ => "exit, which ends it",
         },
         None => "",
     }
@@ -79,6 +107,12 @@ fn put_not_running<A: Allocator, B: Allocator>(
 ) -> Result<(), AllocError> {
     if !runs_before(trace, at, event.who) {
         put(out, &[goroutine(trace, event.who)])?;
+        if event.op == Op::Go(event.who) {
+            return put(
+                out,
+                &[" isn't running, and can't start itself: one of the two names is wrong"],
+            );
+        }
         return match started_instead(trace, at, event) {
             Some(started) => put_exchanged(out, trace, started),
             None => put_idle(out, trace, at, event.who),

@@ -5,7 +5,9 @@ mod channel_rule;
 mod clean;
 mod count;
 mod cut_off;
+mod doubt;
 pub mod examples;
+mod exchanged;
 mod explain;
 mod fault;
 mod field;
@@ -25,6 +27,7 @@ mod rule;
 mod sentence;
 mod shown;
 mod unlocking;
+mod values;
 mod word;
 
 pub use explain::{explain_fault, explain_trace};

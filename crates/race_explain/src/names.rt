@@ -2,7 +2,7 @@
 ghost use Rattle.std.specs.Prelude.{◌≡◌};
 ghost use Rattle.race_explain.specs.Shown.{line_of};
 
-use race_records::{Event, Kind, Named, Trace};
+use race_records::{Decls, Event, Kind, Named, Object, Trace};
 use std::alloc::Allocator;
 
 /// The name of what is declared; a number that isn't declared has none.
@@ -45,6 +45,17 @@ pub(crate) fn line_of<A: Allocator>(trace: &Trace<A>, at: u32) -> u64
     ensures { result ≡ line_of trace.now at }
 {
     trace.decls().len() as u64 + u64::from(at) + 2
+}
+
+/// As what and in which line an object is declared; main is in none.
+pub(crate) fn declared_in<A: Allocator>(decls: &Decls<A>, named: Named) -> Option<(Object, u64)> {
+    for index in 0..decls.len() {
+        if decls.declared(index) == named {
+            let (object, _) = decls.declaration(index);
+            return Some((object, (index as u64).saturating_add(2)));
+        }
+    }
+    None
 }
 
 /// The event at the index, if there is one.

@@ -2,10 +2,11 @@
 ghost use Rattle.std.specs.Prelude.{◌≡◌, true};
 ghost use Rattle.race_records.specs.Name.{is_name};
 
+use crate::exchanged::put_exchanged;
 use crate::fault::Faulty;
 use crate::field::{form_of, one_of};
 use crate::line::{put_quoted, put_visible};
-use crate::names::{name_of, numbered};
+use crate::names::{declared_in, name_of, numbered};
 use crate::near::Guess;
 use crate::put::{put, put_at, put_number_in};
 use crate::word::FaultyWord;
@@ -25,12 +26,20 @@ pub(crate) fn put_word<A: Allocator, B: Allocator>(
     match cause {
         TextCause::Taken => put_taken(out, before.decls(), name),
         TextCause::Unknown => put_unknown(out, faulty, before, found, name),
-        TextCause::WrongKind => put_wrong_kind(out, before.decls(), found, name),
+        TextCause::WrongKind => {
+            put_wrong_kind(out, before.decls(), found, name)?;
+            put_exchanged(out, before.decls(), faulty.line, found)?;
+            Ok(())
+        }
         TextCause::TooMany => {
             put_quoted(out, found.word)?;
             put(out, &[" has more than 16 cases"])
         }
-        _ => put_bad_form(out, cause, found, faulty.line),
+        _ => {
+            put_bad_form(out, cause, found, faulty.line)?;
+            put_exchanged(out, before.decls(), faulty.line, found)?;
+            Ok(())
+        }
     }
 }
 
@@ -163,8 +172,8 @@ fn is_of_digits(word: &[u8]) -> bool {
     !word.is_empty()
 }
 
-// The object of this name, if there is one.
-fn object_of<A: Allocator>(decls: &Decls<A>, word: &[u8]) -> Option<Named> {
+/// The object of this name, if there is one.
+pub(crate) fn object_of<A: Allocator>(decls: &Decls<A>, word: &[u8]) -> Option<Named> {
     if is_name(word) {
         look_up(decls, word)
     } else {
@@ -205,14 +214,13 @@ fn put_declared<A: Allocator, B: Allocator>(
     decls: &Decls<B>,
     named: Named,
 ) -> Result<(), AllocError> {
-    for index in 0..decls.len() {
-        if decls.declared(index) == named {
-            let (object, _) = decls.declaration(index);
+    match declared_in(decls, named) {
+        Some((object, line)) => {
             put(out, &[" as ", object_name(object)])?;
-            return put_number_in(out, " in line ", (index as u64).saturating_add(2), "");
+            put_number_in(out, " in line ", line, "")
         }
+        None => Ok(()),
     }
-    Ok(())
 }
 
 fn object_name(object: Object) -> &'static str {
@@ -236,6 +244,9 @@ fn put_unknown<A: Allocator, B: Allocator>(
 ) -> Result<(), AllocError> {
     put_quoted(out, name)?;
     put(out, &[" is declared by no line before"])?;
+    if put_exchanged(out, before.decls(), faulty.line, found)? {
+        return Ok(());
+    }
     if let Some(line) = declared_after(faulty, name) {
         return put_number_in(out, "; line ", line, " declares it, but comes later");
     }

@@ -22,6 +22,8 @@ pub(crate) enum Deed {
     SendsValue(u32, u64),
     /// A value is received from it.
     Receives(u32),
+    /// This value is received from it.
+    ReceivesValue(u32, u64),
     /// The channel is closed.
     Closes(u32),
     /// The lock of this number is locked.
@@ -36,10 +38,35 @@ pub(crate) enum Deed {
     Begins(u32),
     /// It ends.
     Ends(u32),
+    /// The lock of this number is locked or unlocked in any way, or a try of it fails.
+    Uses(u32),
+    /// Anything is done.
+    Acts,
 }
 
 /// Whether the event does so.
 pub(crate) fn does(event: &Event, deed: Deed) -> bool {
+    match deed {
+        Deed::Uses(lock) => uses(event, lock),
+        Deed::Acts => true,
+        _ => does_only(event, deed),
+    }
+}
+
+fn uses(event: &Event, lock: u32) -> bool {
+    match event.op {
+        Op::Lock(used) => used == lock,
+        Op::Unlock(used) => used == lock,
+        Op::RLock(used) => used == lock,
+        Op::RUnlock(used) => used == lock,
+        Op::TryLock(used) => used == lock,
+        Op::TryRLock(used) => used == lock,
+        Op::TryFail(used) => used == lock,
+        _ => false,
+    }
+}
+
+fn does_only(event: &Event, deed: Deed) -> bool {
     match &event.op {
         Op::Go(goroutine) => deed == Deed::Starts(*goroutine),
         Op::Exit => { deed == Deed::Exits(event.who) || event.who == 0 && deed == Deed::EndsRun }
@@ -50,7 +77,9 @@ pub(crate) fn does(event: &Event, deed: Deed) -> bool {
         Op::Send(chan, value) => {
             deed == Deed::Sends(*chan) || deed == Deed::SendsValue(*chan, *value)
         }
-        Op::Recv(chan, _) => deed == Deed::Receives(*chan),
+        Op::Recv(chan, value) => {
+            deed == Deed::Receives(*chan) || deed == Deed::ReceivesValue(*chan, *value)
+        }
         Op::Close(chan) => deed == Deed::Closes(*chan),
         Op::Lock(lock) => deed == Deed::Locks(*lock),
         Op::TryLock(lock) => deed == Deed::Locks(*lock),
@@ -131,6 +160,33 @@ pub(crate) fn first_after<A: Allocator>(trace: &Trace<A>, after: u32, deed: Deed
     let mut at = 0;
     for event in trace.events() {
         if at > after && does(event, deed) {
+            return Some(at);
+        }
+        at = at.saturating_add(1);
+    }
+    None
+}
+
+/// The last event that does so before the one at this index, and by the same goroutine.
+pub(crate) fn last_own<A: Allocator>(trace: &Trace<A>, before: u32, deed: Deed) -> Option<u32> {
+    let who = trace.events().get(before as usize)?.who;
+    let mut found = None;
+    let mut at = 0;
+    for event in trace.events() {
+        if at < before && event.who == who && does(event, deed) {
+            found = Some(at);
+        }
+        at = at.saturating_add(1u32);
+    }
+    found
+}
+
+/// The first event that does so after the one at this index, and by the same goroutine.
+pub(crate) fn first_own<A: Allocator>(trace: &Trace<A>, after: u32, deed: Deed) -> Option<u32> {
+    let who = trace.events().get(after as usize)?.who;
+    let mut at = 0;
+    for event in trace.events() {
+        if at > after && event.who == who && does(event, deed) {
             return Some(at);
         }
         at = at.saturating_add(1);

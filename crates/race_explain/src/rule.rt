@@ -1,104 +1,13 @@
-//! Why an event on a variable, a lock or a once breaks its rule.
+//! Why an event on a lock or a once breaks its rule.
 
+use crate::doubt::put_unlocked;
 use crate::illegal::{put_later, put_since};
 use crate::names::{event_at, goroutine, name_of, place_of, who_at};
-use crate::past::{Deed, does, first_after, is_locked, last_before, readers};
-use crate::put::{put, put_at, put_number, put_number_in};
+use crate::past::{Deed, does, first_after, is_locked, last_before, last_own, readers};
+use crate::put::{put, put_at};
 use crate::unlocking::put_not_free;
 use race_records::{Event, Kind, Named, Op, Trace};
 use std::alloc::{AllocError, Allocator};
-
-/// A read of another value than the variable has.
-pub(crate) fn put_stale_read<A: Allocator, B: Allocator>(
-    out: &mut Vec<u8, A>,
-    trace: &Trace<B>,
-    at: u32,
-    event: &Event,
-) -> Result<(), AllocError> {
-    let Op::Read(var, value) = event.op else {
-        return Ok(());
-    };
-    let name = name_of(trace, Named::Var(var));
-    put(
-        out,
-        &["read of ", name, " by ", goroutine(trace, event.who)],
-    )?;
-    put_number_in(out, " finds ", value, "; ")?;
-    match last_before(trace, at, Deed::Writes(var)) {
-        Some(write) => {
-            put_at(out, trace, "the last write before it is ", write, ", by ")?;
-            put(out, &[who_at(trace, write), ", which wrote "])?;
-            put_number(out, value_of(trace, write))?;
-        }
-        None => put(
-            out,
-            &[
-                "no event before it writes ",
-                name,
-                ", whose first value is 0",
-            ],
-        )?,
-    }
-    put_origin(out, trace, at, var, value)
-}
-
-// Where the value may come from: a write that stands too early or too late, or one that is missing.
-fn put_origin<A: Allocator, B: Allocator>(
-    out: &mut Vec<u8, A>,
-    trace: &Trace<B>,
-    at: u32,
-    var: u32,
-    value: u64,
-) -> Result<(), AllocError> {
-    let order = ": the two lines may stand in the wrong order, or the value is wrong";
-    if had_before(trace, at, var, value) {
-        put(
-            out,
-            &["; before that write ", name_of(trace, Named::Var(var))],
-        )?;
-        return put_number_in(out, " was ", value, order);
-    }
-    match first_after(trace, at, Deed::WritesValue(var, value)) {
-        Some(later) => {
-            put_at(out, trace, "; ", later, ", by ")?;
-            put(
-                out,
-                &[who_at(trace, later), ", writes this value, but comes later"],
-            )?;
-            put(out, &[order])
-        }
-        None => put_number_in(
-            out,
-            "; a write of ",
-            value,
-            " may be missing before it, or the value is wrong",
-        ),
-    }
-}
-
-// Whether the variable had this value until another goroutine wrote the one that it has.
-fn had_before<A: Allocator>(trace: &Trace<A>, at: u32, var: u32, value: u64) -> bool {
-    let Some(write) = last_before(trace, at, Deed::Writes(var)) else {
-        return false;
-    };
-    let former = match last_before(trace, write, Deed::Writes(var)) {
-        Some(former) => value_of(trace, former),
-        None => 0,
-    };
-    former == value && who_at(trace, write) != who_at(trace, at)
-}
-
-// The value of an access or of a send.
-pub(crate) fn value_of<A: Allocator>(trace: &Trace<A>, at: u32) -> u64 {
-    match event_at(trace, at) {
-        Some(event) => match event.op {
-            Op::Write(_, value) => value,
-            Op::Send(_, value) => value,
-            _ => 0,
-        },
-        None => 0,
-    }
-}
 
 /// A lock that isn't free, or an unlock of a free one.
 pub(crate) fn put_lock_rule<A: Allocator + Copy, B: Allocator>(
@@ -164,6 +73,8 @@ struct Mode {
     held_else: &'static str,
     /// Whose lock may be missing.
     missing: &'static str,
+    /// What a try is that succeeded.
+    success: &'static str,
 }
 
 const WRITING: Mode = Mode {
@@ -171,6 +82,7 @@ const WRITING: Mode = Mode {
     unheld: " isn't locked",
     held_else: " isn't locked, but locked for reading, which a runlock ends",
     missing: "; a lock by ",
+    success: "trylock",
 };
 
 const READING: Mode = Mode {
@@ -178,6 +90,7 @@ const READING: Mode = Mode {
     unheld: " isn't locked for reading",
     held_else: " isn't locked for reading, but for writing, which an unlock ends",
     missing: "; an rlock by ",
+    success: "tryrlock",
 };
 
 // What locks so, and what unlocks.
@@ -199,7 +112,7 @@ fn is_held<A: Allocator>(trace: &Trace<A>, at: u32, lock: u32, mode: Mode) -> bo
 }
 
 // Who unlocked the lock before, or that it is locked the other way.
-fn put_not_held<A: Allocator, B: Allocator>(
+fn put_not_held<A: Allocator + Copy, B: Allocator>(
     out: &mut Vec<u8, A>,
     trace: &Trace<B>,
     at: u32,
@@ -210,7 +123,7 @@ fn put_not_held<A: Allocator, B: Allocator>(
     put(out, &[name_of(trace, Named::Lock(lock))])?;
     if is_held(trace, at, lock, other) {
         put(out, &[mode.held_else])?;
-        return put_since(out, trace, at, deeds(other, lock).0, " locked it");
+        return put_locker(out, trace, at, deeds(other, lock).0);
     }
     put(out, &[mode.unheld])?;
     let (locks, unlocks) = deeds(mode, lock);
@@ -225,8 +138,25 @@ fn put_not_held<A: Allocator, B: Allocator>(
         Some(later) => put_at(out, trace, "; ", later, " locks it, but comes later"),
         None => {
             put(out, &[mode.missing])?;
-            put(out, &[who_at(trace, at), " may be missing before it"])
+            put(out, &[who_at(trace, at), " may be missing before it"])?;
+            put_unlocked(out, trace, at, lock, mode.success)
         }
+    }
+}
+
+// Which event locked it: the goroutine's own, where there is one, or another's.
+fn put_locker<A: Allocator, B: Allocator>(
+    out: &mut Vec<u8, A>,
+    trace: &Trace<B>,
+    at: u32,
+    locks: Deed,
+) -> Result<(), AllocError> {
+    match last_own(trace, at, locks) {
+        Some(own) => {
+            put_at(out, trace, ": ", own, ", by ")?;
+            put(out, &[who_at(trace, at), ", locked it"])
+        }
+        None => put_since(out, trace, at, locks, " locked it"),
     }
 }
 
@@ -321,7 +251,10 @@ fn put_beginner<A: Allocator, B: Allocator>(
         put_function(out, trace, once)?;
         put(out, &[" has ended"])?;
         put_since(out, trace, at, Deed::Ends(once), " ended it")?;
-        return put_another(out, "; this line may be there twice", who);
+        return put(
+            out,
+            &["; a oncebegin by ", who, " of another once may be missing"],
+        );
     }
     if who_at(trace, begin) == who {
         return put(
@@ -332,7 +265,14 @@ fn put_beginner<A: Allocator, B: Allocator>(
     put_function(out, trace, once)?;
     put(out, &[" was begun by ", who_at(trace, begin)])?;
     put_at(out, trace, ", which alone ends it, in ", begin, "")?;
-    put_another(out, ": one of the two goroutines may be wrong", who)
+    put(
+        out,
+        &[
+            ": one of the two goroutines may be wrong, or a oncebegin by ",
+            who,
+            " of another once is missing",
+        ],
+    )
 }
 
 // Of a function that no event begins before: which one does later, or that one may be missing.
@@ -355,19 +295,6 @@ fn put_unbegun<A: Allocator, B: Allocator>(
             who_at(trace, at),
             " may be missing",
         ],
-    )
-}
-
-// What else may be missing where a goroutine ends what it isn't in.
-fn put_another<A: Allocator>(
-    out: &mut Vec<u8, A>,
-    first: &str,
-    who: &str,
-) -> Result<(), AllocError> {
-    put(out, &[first])?;
-    put(
-        out,
-        &[", or a oncebegin by ", who, " of another once is missing"],
     )
 }
 

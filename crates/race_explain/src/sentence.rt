@@ -1,10 +1,13 @@
 //! What is said of a line as a whole that is at fault.
 
 use crate::count::is_whole;
+use crate::cut_off::{line_within, put_cut_before};
 use crate::line::put_quoted;
 use crate::near::{Guess, is_same};
+use crate::operand::object_of;
 use crate::put::{put, put_number, put_number_in};
-use crate::word::bad_column;
+use crate::word::{bad_column, column_in};
+use race_records::Trace;
 use race_text::{cut_at, word_named};
 use std::alloc::{AllocError, Allocator};
 
@@ -68,8 +71,9 @@ pub(crate) fn put_bad_byte<A: Allocator>(
 }
 
 /// What is said of a line whose first word begins no line.
-pub(crate) fn put_unknown_word<A: Allocator>(
+pub(crate) fn put_unknown_word<A: Allocator, B: Allocator>(
     out: &mut Vec<u8, A>,
+    before: Option<&Trace<B>>,
     line: &[u8],
 ) -> Result<(), AllocError> {
     let (word, rest) = cut_at(line, b' ');
@@ -91,14 +95,66 @@ pub(crate) fn put_unknown_word<A: Allocator>(
         return put(out, &[text]);
     }
     put(out, &[" begins no line of a trace: "])?;
+    put_instead(out, before, line)
+}
+
+// What a line may be whose first word is in no text: cut off, or one whose first word stands elsewhere, or is another.
+fn put_instead<A: Allocator, B: Allocator>(
+    out: &mut Vec<u8, A>,
+    before: Option<&Trace<B>>,
+    line: &[u8],
+) -> Result<(), AllocError> {
+    let (word, rest) = cut_at(line, b' ');
     if rest.is_none() && is_cut(word) {
         return put(out, &["the line seems to be cut off"]);
+    }
+    if let Some(part) = line_in_word(before, line) {
+        return put_cut_before(out, part);
     }
     if let Some(second) = later_word(rest) {
         put(out, &["its first word may be "])?;
         return put_quoted(out, second);
     }
+    if let Some(front) = front_word(word) {
+        put(out, &["a blank is wanted after "])?;
+        return put_quoted(out, front);
+    }
+    if before.is_some_and(|trace| object_of(trace.decls(), word).is_some()) {
+        return put(out, &["the word before it may be missing"]);
+    }
     put_guess(out, word)
+}
+
+/// Where a line within the first word begins, or else the first word.
+pub(crate) fn unknown_column<A: Allocator>(before: Option<&Trace<A>>, line: &[u8]) -> usize {
+    match line_in_word(before, line) {
+        Some(part) => column_in(line, part),
+        None => 0,
+    }
+}
+
+// The line that begins within the first word, after some letters of another. What ends with a known word may be one word,
+// as trysend and rwlock.
+fn line_in_word<'a, A: Allocator>(before: Option<&Trace<A>>, line: &'a [u8]) -> Option<&'a [u8]> {
+    let part = line_within(before, line, 3)?;
+    let front = &line[..column_in(line, part).min(line.len())];
+    if is_cut(front) && word_named(front).is_none() && front != b"try".as_slice() {
+        Some(part)
+    } else {
+        None
+    }
+}
+
+// The word that a line may begin with, where a sign follows it, as a comma.
+fn front_word(word: &[u8]) -> Option<&[u8]> {
+    for index in 0..word.len() {
+        if !(word[index].is_ascii_alphanumeric() || word[index] == b'_') {
+            let front = &word[..index];
+            word_named(front)?;
+            return Some(front);
+        }
+    }
+    None
 }
 
 // The second word, if a line may begin with it.

@@ -1,6 +1,7 @@
 //! Who holds a lock that isn't free, and which unlock comes too late or may be missing.
 
 use crate::clean::note;
+use crate::doubt::put_doubt;
 use crate::holding::{Holding, held_before, put_holders};
 use crate::names::{event_at, goroutine, name_of, who_at};
 use crate::past::{Deed, does, first_after, is_locked};
@@ -36,21 +37,26 @@ pub(crate) fn put_not_free<A: Allocator + Copy, B: Allocator>(
             "; an unlock"
         }],
     )?;
-    if let Some(holder) = only_holder(held.as_slice(), lock) {
-        put(out, &[" by ", goroutine(trace, holder)])?;
+    let holder = only_holder(held.as_slice(), lock);
+    if let Some(holding) = holder {
+        put(out, &[" by ", goroutine(trace, holding.who)])?;
     }
-    put(out, &[" may be missing in between"])
+    put(out, &[" may be missing in between"])?;
+    match holder {
+        Some(holding) => put_doubt(out, trace, at, holding),
+        None => Ok(()),
+    }
 }
 
-// The goroutine that alone holds the lock.
-fn only_holder(held: &[Holding], lock: u32) -> Option<u32> {
-    let mut found = None;
+// The last holding of the lock, where one goroutine alone holds it.
+fn only_holder(held: &[Holding], lock: u32) -> Option<Holding> {
+    let mut found: Option<Holding> = None;
     for holding in held {
         if holding.lock == lock {
-            if found.is_some_and(|who| who != holding.who) {
+            if found.is_some_and(|other| other.who != holding.who) {
                 return None;
             }
-            found = Some(holding.who);
+            found = Some(*holding);
         }
     }
     found

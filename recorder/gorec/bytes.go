@@ -1,6 +1,7 @@
 package gorec
 
 import (
+	"math/bits"
 	"unsafe"
 
 	"gorace.local/recorder/wire"
@@ -26,14 +27,15 @@ func wordAt(p unsafe.Pointer, n uintptr) (word unsafe.Pointer, bytes uint8, coun
 }
 
 // bitsIn are these bytes of a word, and no others, which may be another one's.
-func bitsIn(p unsafe.Pointer, bytes uint8, count uintptr) uint64 {
+func bitsIn(word unsafe.Pointer, bytes uint8) uint64 {
 	if bytes == whole {
-		return *(*uint64)(p)
+		return *(*uint64)(word)
 	}
-	at := uintptr(p) & 7
 	x := uint64(0)
-	for i := uintptr(0); i < count; i++ {
-		x |= uint64(*(*uint8)(unsafe.Add(p, i))) << (8 * (at + i))
+	for k := 0; k < 8; k++ {
+		if bytes>>k&1 != 0 {
+			x |= uint64(*(*uint8)(unsafe.Add(word, k))) << (8 * k)
+		}
 	}
 	return x
 }
@@ -42,6 +44,7 @@ func bitsIn(p unsafe.Pointer, bytes uint8, count uintptr) uint64 {
 func (sh *shard) locationOf(p unsafe.Pointer, size uintptr) (i int, bytes uint8) {
 	if size == 1 {
 		word, bytes, _ := wordAt(p, 1)
+		sh.leaveAt(word)
 		if i := sh.locate(word, inWord); !sh.entries[i].apart {
 			return i, bytes
 		}
@@ -57,18 +60,51 @@ func (o user) wroteBytes(p unsafe.Pointer, n, offset uintptr) { o.useBytes(wire.
 
 func (o user) useBytes(op wire.Op, p unsafe.Pointer, n, offset uintptr) {
 	for n > 0 {
-		word, bytes, count := wordAt(p, n)
-		sh := shardOf(word)
-		i := sh.locate(word, inWord)
-		if sh.isApart(i, o, op, bytes) {
-			for k := uintptr(0); k < count; k++ {
-				q := unsafe.Add(p, k)
-				o.useAt(op, sh, sh.locate(q, wire.VarMemory), bitsOf(q, 1), whole, offset)
-			}
-		} else {
-			o.useAt(op, sh, i, bitsIn(p, bytes, count), bytes, offset)
+		count := block - uintptr(p)%block
+		if count > n {
+			count = n
 		}
+		o.useInBlock(op, partOf(p, count), offset)
 		p, n = unsafe.Add(p, count), n-count
+	}
+}
+
+// useInBlock has the lock. Words that are neither in a span nor have a location get the one or the
+// other.
+func (o user) useInBlock(op wire.Op, b blockPart, offset uintptr) {
+	sh := shardOf(b.p)
+	words, joined := o.useSpans(op, sh, b)
+	unknown := words
+	if !sh.split.mayHave(b.p) {
+		words = 0
+	}
+	for m := words; m != 0; m &= m - 1 {
+		w := bits.TrailingZeros64(m)
+		if i := sh.lookUp(b.word(w), inWord); i >= 0 {
+			o.useWord(op, sh, i, b, w, offset)
+			unknown &^= 1 << w
+		}
+	}
+	if unknown == 0 || o.spanFor(op, sh, b, unknown, joined) {
+		return
+	}
+	for m := unknown; m != 0; m &= m - 1 {
+		w := bits.TrailingZeros64(m)
+		o.useWord(op, sh, sh.locate(b.word(w), inWord), b, w, offset)
+	}
+}
+
+// useWord is useInBlock of a word, which has the location i.
+func (o user) useWord(op wire.Op, sh *shard, i int, b blockPart, w int, offset uintptr) {
+	word, bytes := b.word(w), b.bytesOf(w)
+	if !sh.isApart(i, o, op, bytes) {
+		o.useAt(op, sh, i, bitsIn(word, bytes), bytes, offset)
+		return
+	}
+	for k := 0; k < 8; k++ {
+		if q := unsafe.Add(word, k); bytes>>k&1 != 0 {
+			o.useAt(op, sh, sh.locate(q, wire.VarMemory), bitsOf(q, 1), whole, offset)
+		}
 	}
 }
 
@@ -77,11 +113,17 @@ func (o user) useByte(op wire.Op, p unsafe.Pointer, offset uintptr) {
 	at := uintptr(p) & 7
 	word, bytes := unsafe.Add(p, -int(at)), uint8(1)<<at
 	sh := shardOf(word)
-	i, bits := sh.locate(word, inWord), uint64(*(*uint8)(p))
+	if len(sh.spans.keys) > 0 && o.useByteOfSpan(op, sh, p) {
+		return
+	}
+	if at == 0 && sh.lookUp(word, inWord) < 0 && o.goesAlong(op, sh, p) {
+		return
+	}
+	i, x := sh.locate(word, inWord), uint64(*(*uint8)(p))
 	if sh.isApart(i, o, op, bytes) {
-		o.useAt(op, sh, sh.locate(p, wire.VarMemory), bits, whole, offset)
+		o.useAt(op, sh, sh.locate(p, wire.VarMemory), x, whole, offset)
 	} else {
-		o.useAt(op, sh, i, bits<<(8*at), bytes, offset)
+		o.useAt(op, sh, i, x<<(8*at), bytes, offset)
 	}
 }
 

@@ -143,14 +143,19 @@ func (g *G) does() {
 // keep has the lock: the owner reads or writes these bytes, and all others of the last such
 // access, or as that one did.
 func (v *variable) keep(op wire.Op, a access, bytes uint8) {
-	last, of := &v.read, &v.reads
-	if op == wire.Write {
-		last, of = &v.write, &v.writes
-	}
+	last, of := v.lastOf(op)
 	if last.is(a) {
 		bytes |= *of
 	}
 	*last, *of = a, bytes
+}
+
+// lastOf is where the last read or the last write of the owner is kept, and of which bytes it was.
+func (v *variable) lastOf(op wire.Op) (*access, *uint8) {
+	if op == wire.Write {
+		return &v.write, &v.writes
+	}
+	return &v.read, &v.reads
 }
 
 // fits has the lock. It reports whether the variable can keep such an access of its owner.

@@ -99,7 +99,11 @@ func (sh *shard) forget(unused uint8) {
 		}
 	}
 	sh.resize(len(sh.keys))
-	gone := uint32(before - sh.met)
+	forgot(uint32(before - sh.met))
+}
+
+// forgot counts variables that were forgotten.
+func forgot(gone uint32) {
 	all := atomic.AddUint32(&header.Forgotten, gone)
 	if each := uint32(firstLimit() * shardCount / ages / 2); all/each != (all-gone)/each {
 		atomic.AddUint32(&era, 1)

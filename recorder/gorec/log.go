@@ -4,16 +4,16 @@
 // program, and by nothing else: names, types and arguments change with the tool.
 //
 // Every operation that takes effect at once is done, and its record written, while a lock is held:
-// one that may order goroutines holds mu, and a read or a write the locks of its memory
+// one that may order goroutines, a step, holds mu, and a read or a write the locks of its memory
 // (shards.go). So the records of steps stand in an order in which these did happen one after
-// another, and each access says behind how many of them it stands. What can wait never waits
+// another, and each access says after how many of them it comes. What can wait never waits
 // with a lock held. Accesses that repeat others and have no record are done without one
 // (repeats.go), and most reads of what several goroutines use (shadow.go).
 //
-// Read (variables.go) comes by read (locations.go) to accessed (exclusive.go), which keeps the
-// access or writes its record. What may order, such as Send (channels.go) by sent
-// (communicate.go), is written by step or write (log.go). openLog (windows.go) maps the log, where
-// take finds room; wire/record.go has a record's form.
+// Read (variables.go) comes by user.read (locations.go) to accessed (exclusive.go), which keeps
+// the access or writes its record. What may order, such as Send (channels.go) by sent
+// (communicate.go), is written by step or write (log.go). init has openLog (windows.go) map the
+// log, where take finds room; wire/record.go has a record's form.
 package gorec
 
 import (

@@ -30,12 +30,14 @@ const (
 type shard struct {
 	sync.Mutex
 	table
+	spans spans
+	split blocks // those of which some words have locations
 	met   int
 	limit int // so many are known before some are forgotten
 	fresh int // that were met at this age
 	last  int // where the last one was found
 	age   uint8
-	_     [31]byte // no other one's lock is in the same line of a processor's cache
+	_     [55]byte // no other one's lock is in the same line of a processor's cache
 }
 
 type table struct {
@@ -130,8 +132,16 @@ func unlockAll() {
 	}
 }
 
-// locate has the lock. It is the number of the entry, which is good until the next call.
-func (sh *shard) locate(p unsafe.Pointer, kind wire.VarKind) int {
+// lookUp has the lock. It is the number of the entry, which is good until the next call, or -1.
+func (sh *shard) lookUp(p unsafe.Pointer, kind wire.VarKind) int {
+	if i := sh.placeOf(p, kind); i < len(sh.keys) && sh.keys[i].p != nil {
+		return i
+	}
+	return -1
+}
+
+// placeOf is the number of the entry, or where there would be one. A table without entries has none.
+func (sh *shard) placeOf(p unsafe.Pointer, kind wire.VarKind) int {
 	for i := sh.last; i < len(sh.keys) && i <= sh.last+1; i++ { // where the last one was found, or beside it
 		if sh.keys[i].p == p && sh.entries[i].kind == kind {
 			sh.last = i
@@ -139,15 +149,26 @@ func (sh *shard) locate(p unsafe.Pointer, kind wire.VarKind) int {
 		}
 	}
 	if len(sh.keys) == 0 {
-		sh.resize(fewest)
-		sh.limit = firstLimit()
+		return 0
 	}
 	i := sh.find(p, kind)
 	if sh.keys[i].p != nil {
 		sh.last = i
-		return i
 	}
-	if sh.met*4 >= len(sh.keys)*3 || sh.isCrowded() {
+	return i
+}
+
+// locate is lookUp of what gets an entry if it has none.
+func (sh *shard) locate(p unsafe.Pointer, kind wire.VarKind) int {
+	i := sh.placeOf(p, kind)
+	switch {
+	case len(sh.keys) == 0:
+		sh.resize(fewest)
+		sh.limit = firstLimit()
+		i = sh.find(p, kind)
+	case sh.keys[i].p != nil:
+		return i
+	case sh.met*4 >= len(sh.keys)*3 || sh.isCrowded():
 		sh.makeRoom()
 		i = sh.find(p, kind)
 	}
@@ -158,6 +179,9 @@ func (sh *shard) locate(p unsafe.Pointer, kind wire.VarKind) int {
 	}
 	sh.keys[i].p = p
 	sh.entries[i].kind = kind
+	if kind == inWord {
+		sh.split.add(p)
+	}
 	return i
 }
 
@@ -166,10 +190,13 @@ func (sh *shard) locate(p unsafe.Pointer, kind wire.VarKind) int {
 const stride = block/8 + 1
 
 // find is where a location stands, or would.
-func (sh *shard) find(p unsafe.Pointer, kind wire.VarKind) int {
+func (sh *shard) find(p unsafe.Pointer, kind wire.VarKind) int { return sh.findAt(uintptr(p), kind) }
+
+// findAt is find by an address at which there may be nothing any more.
+func (sh *shard) findAt(p uintptr, kind wire.VarKind) int {
 	mask := uintptr(len(sh.keys) - 1)
 	i := hash(p) & mask
-	for sh.keys[i].p != nil && (sh.keys[i].p != p || sh.entries[i].kind != kind) {
+	for sh.keys[i].p != nil && (uintptr(sh.keys[i].p) != p || sh.entries[i].kind != kind) {
 		i = (i + stride) & mask
 	}
 	return int(i)
@@ -177,8 +204,7 @@ func (sh *shard) find(p unsafe.Pointer, kind wire.VarKind) int {
 
 // hash has the words of a block beside one another, so that who goes along them finds the next
 // one there, and each of their other bytes elsewhere.
-func hash(p unsafe.Pointer) uintptr {
-	h := uintptr(p)
+func hash(h uintptr) uintptr {
 	of := h>>blockBits<<3 | h&7
 	return (of^of>>17)*0x9e3779b97f4a7c15>>20<<3 + h>>3&(block/8-1)
 }
@@ -186,9 +212,12 @@ func hash(p unsafe.Pointer) uintptr {
 // resize has the lock. It makes a table of so many entries, without those that aren't kept.
 func (sh *shard) resize(size int) {
 	old := sh.table
-	sh.table = newTable(size)
+	sh.table, sh.split = newTable(size), blocks{}
 	for i := range old.keys {
 		if old.keys[i].p != nil {
+			if old.entries[i].kind == inWord {
+				sh.split.add(old.keys[i].p)
+			}
 			at := sh.find(old.keys[i].p, old.entries[i].kind)
 			sh.keys[at], sh.entries[at] = old.keys[i], old.entries[i]
 		}
@@ -199,7 +228,8 @@ func (sh *shard) resize(size int) {
 // clear has the lock.
 func (sh *shard) clear() {
 	sh.table.free()
-	sh.table, sh.met = table{}, 0
+	sh.table, sh.met, sh.split = table{}, 0, blocks{}
+	sh.spans.clear()
 }
 
 // spare is a table for the next one of its size, since forgetting makes another one of the same.
@@ -215,7 +245,7 @@ func newTable(size int) table {
 		spare = table{}
 		return t
 	}
-	return table{make([]key, size), makeEntries(size)}
+	return table{make([]key, size), outside[location](size)}
 }
 
 // free keeps the table where it is larger than the spare one.
@@ -234,13 +264,13 @@ func (t table) free() {
 	freeEntries(t.entries)
 }
 
-// makeEntries is memory of the system's, in which all is zero. Where there is none it is Go's.
-func makeEntries(n int) []location {
-	b, err := syscall.Mmap(-1, 0, n*int(unsafe.Sizeof(location{})), syscall.PROT_READ|syscall.PROT_WRITE, syscall.MAP_ANON|syscall.MAP_PRIVATE)
+// outside is memory of the system's, in which all is zero. Where there is none it is Go's.
+func outside[T any](n int) []T {
+	b, err := syscall.Mmap(-1, 0, n*int(unsafe.Sizeof(*new(T))), syscall.PROT_READ|syscall.PROT_WRITE, syscall.MAP_ANON|syscall.MAP_PRIVATE)
 	if err != nil {
-		return make([]location, n)
+		return make([]T, n)
 	}
-	return unsafe.Slice((*location)(unsafe.Pointer(&b[0])), n)
+	return unsafe.Slice((*T)(unsafe.Pointer(&b[0])), n)
 }
 
 func freeEntries(e []location) {

@@ -122,3 +122,34 @@ func Copy[T any](s *Site, to, from []T) int {
 	move(o, to[:len(from)], from)
 	return len(from)
 }
+
+// Clear sets all elements to zero.
+func Clear[S ~[]E, E any](a S, s *Site) {
+	var zero E
+	if alone() {
+		for i := range a {
+			a[i] = zero
+		}
+		return
+	}
+	o := current(s).at(s)
+	for len(a) > 0 {
+		n := inBlock(a)
+		h := holdElements(o.g, a[:n])
+		for i := range a[:n] {
+			a[i] = zero
+		}
+		wroteElements(o, a[:n])
+		h.release()
+		a = a[n:]
+	}
+}
+
+// Cleared is what is left for a loop that sets all elements of a slice to zero.
+func Cleared[S ~[]E, E any](a S, s *Site) S {
+	if alone() {
+		return a
+	}
+	Clear(a, s)
+	return a[:0]
+}

@@ -1,10 +1,11 @@
 // Gorec records runs of Go programs as traces, and has gorace judge them. Nothing of it is
 // proved.
 //
-// run (run.go) has instrument (build.go) copy and build the program. once (recording.go) runs it
-// by record, while follow (segments.go) has each log judged: judgeSegment writes a trace, and ask
-// (judge.go) runs gorace and prints its report, which read (predicted.go) takes apart. explain and
-// tell (report.go) and tellTrace (tracefile.go) print the rest.
+// run (run.go) has instrument (build.go) copy the program, and Build (internal/instrument) build
+// it. repeat (recording.go) calls once, whose recordAndJudge runs it by record, while follow
+// (segments.go) has each log judged: judgeSegment writes a trace, and ask (judge.go) runs gorace
+// and prints its report, which read (predicted.go) takes apart. explain and tell (report.go) and
+// tellTrace (tracefile.go) print the rest.
 package main
 
 import (

@@ -8,6 +8,7 @@ import (
 	"io"
 	"os"
 	"path/filepath"
+	"regexp"
 	"strconv"
 	"strings"
 
@@ -103,8 +104,7 @@ func (c *testRun) several(programs []*instrument.Program) (int, error) {
 	}
 	ready := make([]chan struct{}, len(programs))
 	outputs := make([]bytes.Buffer, len(programs))
-	statuses := make([]int, len(programs))
-	errs := make([]error, len(programs))
+	statuses, errs, noted := make([]int, len(programs)), make([]error, len(programs)), make([]bool, len(programs))
 	places := make(chan struct{}, c.jobs)
 	for i := range programs {
 		ready[i] = make(chan struct{})
@@ -118,13 +118,16 @@ func (c *testRun) several(programs []*instrument.Program) (int, error) {
 					errs[i] = errInterrupted
 					return
 				}
-				statuses[i], errs[i] = c.quiet(programs[i], strconv.Itoa(i), folder, &outputs[i])
+				statuses[i], noted[i], errs[i] = c.quiet(programs[i], strconv.Itoa(i), folder, &outputs[i])
 			}(i)
 		}
 	}()
-	status := 0
+	status, hidden := 0, 0
 	for i := range programs {
 		<-ready[i]
+		if noted[i] {
+			hidden++
+		}
 		if errs[i] == errInterrupted {
 			return worse(status, unusable), nil
 		}
@@ -136,26 +139,34 @@ func (c *testRun) several(programs []*instrument.Program) (int, error) {
 		outputs[i] = bytes.Buffer{}
 		status = worse(status, statuses[i])
 	}
+	if hidden > 0 {
+		fmt.Fprintf(os.Stderr, "gorec: notes on packages that are ok: %d, as on what isn't recorded; -v prints them\n", hidden)
+	}
 	return status, nil
 }
 
 // quiet tests a package of several. Where nothing is wrong and -v and -bench aren't there, its
-// line is all that is told.
-func (c *testRun) quiet(p *instrument.Program, name, folder string, to io.Writer) (int, error) {
+// line is all that is told; noted says that there are notes.
+func (c *testRun) quiet(p *instrument.Program, name, folder string, to io.Writer) (status int, noted bool, err error) {
 	if c.json {
 		e := newEvents(to, p.ImportPath)
 		defer e.Close()
-		return c.told(p, name, folder, &console{out: e, notes: e})
+		status, err = c.told(p, name, folder, &console{out: e, notes: e})
+		return status, false, err
 	}
 	var all bytes.Buffer
-	status, err := c.told(p, name, folder, &console{out: &all, notes: &all})
+	status, err = c.told(p, name, folder, &console{out: &all, notes: &all})
 	if status == 0 && err == nil && !c.names["v"] && !c.names["bench"] {
 		text := bytes.TrimSuffix(all.Bytes(), []byte("\n"))
-		all.Next(bytes.LastIndexByte(text, '\n') + 1)
+		noted = isNote.Match(all.Next(bytes.LastIndexByte(text, '\n') + 1))
 	}
 	all.WriteTo(to)
-	return status, err
+	return status, noted, err
 }
+
+// isNote matches what gorec says of a package, but how many records and events there are, and that
+// tests began in package testing, as all do.
+var isNote = regexp.MustCompile(`(?m)^gorec: ([^rs\d]|\d+ [^et]|.* began in package testing, .*; )`)
 
 // told tests a package, which has a line also where it can't be judged.
 func (c *testRun) told(p *instrument.Program, name, folder string, out *console) (int, error) {

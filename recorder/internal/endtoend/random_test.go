@@ -214,20 +214,22 @@ type maker struct {
 	form form
 }
 
-// form is how a variable is declared and used; %d is the number of its gadget.
-type form struct{ top, local, place, value string }
+// form is how a variable is declared and used; %d is the number of its gadget. It may be one of the
+// bytes of a slice, with all of which more is done.
+type form struct{ top, local, place, value, slice string }
 
 var variableForms = []form{
-	{"var q%dq int", "", "q%dq", "%d"},
-	{"", "var q%dq int", "q%dq", "%d"},
-	{"", "q%dq := make([]int, 4)", "q%dq[2]", "%d"},
-	{"var q%dq [3]int", "", "q%dq[1]", "%d"},
-	{"type t%[1]d struct{ a string; q%[1]dq int; b byte }", "p := &t%d{a: \"a\"}", "p.q%dq", "%d"},
-	{"type t%[1]d struct{ a [2]string; q%[1]dq uint8 }; var p%[1]d t%[1]d", "", "p%[1]d.q%[1]dq", "%d"},
-	{"", "q%dq := new(int)", "*q%dq", "%d"},
-	{"", "q%dq := map[string]int{}", "q%dq[\"k\"]", "%d"},
-	{"var q%dq string", "", "q%dq", "name(%d)"},
-	{"", "var q%dq any", "q%dq", "any(%d)"},
+	{"var q%dq int", "", "q%dq", "%d", ""},
+	{"", "var q%dq int", "q%dq", "%d", ""},
+	{"", "q%dq := make([]int, 4)", "q%dq[2]", "%d", ""},
+	{"var q%dq [3]int", "", "q%dq[1]", "%d", ""},
+	{"type t%[1]d struct{ a string; q%[1]dq int; b byte }", "p := &t%d{a: \"a\"}", "p.q%dq", "%d", ""},
+	{"type t%[1]d struct{ a [2]string; q%[1]dq uint8 }; var p%[1]d t%[1]d", "", "p%[1]d.q%[1]dq", "%d", ""},
+	{"", "q%dq := new(int)", "*q%dq", "%d", ""},
+	{"", "q%dq := map[string]int{}", "q%dq[\"k\"]", "%d", ""},
+	{"var q%dq string", "", "q%dq", "name(%d)", ""},
+	{"", "var q%dq any", "q%dq", "any(%d)", ""},
+	{"", "q%dq := make([]byte, 90)", "q%dq[40]", "%d", "q%dq"},
 }
 
 func (m *maker) write(format string, a ...any) { fmt.Fprintf(m, format+"\n", a...) }
@@ -244,6 +246,9 @@ func (m *maker) number(format string) string {
 // reads and writes are statements that use the variable.
 func (m *maker) reads() string {
 	place := m.number(m.form.place)
+	if m.form.slice != "" && m.Intn(2) == 0 {
+		return "use(string(" + m.number(m.form.slice) + "))"
+	}
 	return m.pick("use("+place+")", "for i := 0; i < 3; i++ { use("+place+") }", "{ x := "+place+"; use(x) }", "help(func() { use("+place+") })")
 }
 
@@ -253,6 +258,10 @@ func (m *maker) writes() string {
 	forms := []string{set, set, "for i := 0; i < 4; i++ { " + set + " }", "help(func() { " + set + " })", "use(" + place + "); " + set, set + "; use(" + place + ")"}
 	if m.form.value == "%d" {
 		forms = append(forms, place+"++", place+" += 3", "for i := 0; i < 3; i++ { "+place+"++ }")
+	}
+	if m.form.slice != "" {
+		all := m.number(m.form.slice)
+		forms = append(forms, "copy("+all+", make([]byte, 90))", "for i := range "+all+" { "+all+"[i] = 0 }", "for i := range "+all+" { "+all+"[i] = byte(i) }")
 	}
 	return m.pick(forms...)
 }

@@ -35,7 +35,10 @@ func (r *rewriter) builtin(e *ast.CallExpr) {
 		if r.isMap(e.Args[0]) || r.isLoose(e.Args[0]) {
 			r.looseMap("WriteMap", e.Args[0])
 		} else {
+			s := r.site(e, r.name(e.Args[0])+"_elem")
+			r.renameCall(e, "gorec.Clear(")
 			r.values(e.Args)
+			r.insert(e.Rparen, r.comma(e)+s)
 		}
 	default:
 		r.values(e.Args)

@@ -2,6 +2,7 @@ package rewrite
 
 import (
 	"go/ast"
+	"go/constant"
 	"go/token"
 	"go/types"
 	"strings"
@@ -210,7 +211,11 @@ func (l *loop) head(text string) {
 }
 
 func (l *loop) overSlice() {
-	if l.value == "" && (l.key == "" || l.define && !l.sharedKey) {
+	switch {
+	case l.clears():
+		l.wrap(l.s.X, "gorec.Cleared(", func() { l.rewriter.value(l.s.X) }, ", "+l.siteOfElement()+")")
+		return
+	case l.value == "" && (l.key == "" || l.define && !l.sharedKey):
 		l.plain()
 		return
 	}
@@ -235,6 +240,45 @@ func (l *loop) overSlice() {
 		element = "gorec.Read(&" + a + "[" + i + "], " + l.siteOfElement() + ")"
 	}
 	l.body(l.giveBoth(i, element) + " ")
+}
+
+// clears reports whether the loop does nothing but set all elements to zero, as in
+// for i := range a { a[i] = 0 }. Then that is done at once, and the loop finds no element.
+func (l *loop) clears() bool {
+	if !l.define || l.key == "" || l.sharedKey || l.s.Value != nil || len(l.s.Body.List) != 1 || !isPlain(l.s.X) {
+		return false
+	}
+	a, ok := l.s.Body.List[0].(*ast.AssignStmt)
+	if !ok || a.Tok != token.ASSIGN || len(a.Lhs) != 1 || len(a.Rhs) != 1 {
+		return false
+	}
+	e, ok := a.Lhs[0].(*ast.IndexExpr)
+	slice, isSlice := core(l.typeOf(l.s.X)).(*types.Slice)
+	return ok && isSlice && l.isZero(a.Rhs[0], slice.Elem()) && identifier(e.Index) == l.key && l.source(e.X) == l.source(l.s.X)
+}
+
+// isPlain reports whether e is a variable, or a field of one, by its names.
+func isPlain(e ast.Expr) bool {
+	if s, ok := e.(*ast.SelectorExpr); ok {
+		return isPlain(s.X)
+	}
+	return identifier(e) != ""
+}
+
+// isZero reports whether e is by itself the zero value of a type. In an interface no constant is.
+func (r *rewriter) isZero(e ast.Expr, t types.Type) bool {
+	tv := r.info.Types[e]
+	if tv.Value == nil || !types.Identical(tv.Type, t) {
+		return tv.IsNil()
+	}
+	switch v := tv.Value; v.Kind() {
+	case constant.Bool:
+		return !constant.BoolVal(v)
+	case constant.String:
+		return constant.StringVal(v) == ""
+	default:
+		return constant.Sign(v) == 0
+	}
 }
 
 func (l *loop) siteOfElement() string { return l.site(l.s.X, l.name(l.s.X)+"_elem") }

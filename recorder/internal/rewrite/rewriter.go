@@ -1,5 +1,5 @@
 // Package rewrite puts calls of the recorder into a program's source. Calls are put round
-// expressions at their offsets in the text, so lines, comments and directives stay where
+// expressions at their offsets in the text (edits.go), so lines, comments and directives stay where
 // they are; each source text appears once, so nothing is evaluated twice.
 //
 // Package goes through a file by statement (statements.go) and value (expressions.go).

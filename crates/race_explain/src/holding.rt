@@ -67,7 +67,8 @@ fn ended(held: &[Holding], who: u32, lock: u32, reading: bool) -> Option<usize> 
     found
 }
 
-/// What is held before the event at the index.
+/// What is held before the event at the index. An unlock looks through what is held: seldom more than a few locks, unless a trace
+/// has very many read locks at once.
 pub(crate) fn held_before<A: Allocator + Copy, B: Allocator>(
     alloc: A,
     trace: &Trace<B>,

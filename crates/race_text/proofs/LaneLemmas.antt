@@ -1,14 +1,14 @@
 -- From the bits of a vector to the first element of a list that passes a test.
-use Rattle.std.proofs.Common.{◌≡◌, ℕ, ◌+◌, ◌-◌, ◌*◌, ◌<◌, ◌≤◌, ◌^◌, ◌%◌, Bool, true, false, not, cond, nat_lt, List, []}
+use Rattle.std.proofs.Common.{◌≡◌, ℕ, ◌+◌, ◌-◌, ◌*◌, ◌<◌, ◌≤◌, ◌^◌, ◌%◌, Bool, true, false, not, cond, nat_eq, nat_lt, List, []}
 use Rattle.std.proofs.Common.{◌∷◌, inl, inr, length, drop, get_or, map, position, Some, None, refl, sym, ap, ap₂, ◌∙◌}
-use Rattle.std.proofs.{Common.{arith, Fits, w8, length-drop}, lemmas.Bool.{agree_below, agree_below_at, cases_lt}}
-use Rattle.std.proofs.lemmas.{Bool.Decides.nat_tests, List.{get_or-drop, length-map, Quantifiers.position-Some}}
+use Rattle.std.proofs.{Common.{arith, Fits, w8, length-drop}, lemmas.Bool.{agree_below, agree_below_at, cases_lt, eqb-true}, Math.Nat.pow-suc}
+use Rattle.std.proofs.lemmas.{Bool.Decides.nat_tests, List.{get_or-drop, get_or-take, length-map, Quantifiers.position-Some}}
 use Rattle.std.proofs.lemmas.List.Sums.{position_or_len_is, fails_before_first, prefix_len-le-length}
-use Rattle.std.proofs.lemmas.{Option.none-some, Simd.{trailing_mask_l, length-chunk, map-map, mask_l-mod}}
+use Rattle.std.proofs.lemmas.{Option.none-some, Simd.{trailing_mask_l, length-chunk, length-zip2, map-map, mask_l-mod, tops_compared}}
 use Rattle.std.proofs.lemmas.Simd.{run_in_chunk_le, run_in_chunk_fails, run_in_chunk_stops, none_from_empty_mask}
 use Rattle.std.specs.List.{position_or_len, prefix_len}
 use lib.Count.{count_trailing_zeros}
-use lib.Lanes.{chunk, mask_l, top, Each1}
+use lib.Lanes.{chunk, mask_l, top, zip2, Each1}
 
 -- no element before the index passes the test
 abbrev pub FailsBefore : {X : Type 0} → (X → Bool) → List X → X → ℕ → Type 0
@@ -116,3 +116,40 @@ pub bits_are : (f : ℕ → ℕ) (p : ℕ → Bool) (v z : List ℕ) → length 
 bits_are f p v z short fits e agree =
     ap (λ l. mask_l l % 2 ^ 64) (ap (map (top 7)) e ∙ map-map (top 7) f v ∙ same_bits (λ x. top 7 (f x)) p agree v fits)
     ∙ mask_l-mod (map p v) 64 (omega (arith, length-map v p))
+
+-- vectors of which each lane is alike have all bits, and are alike then
+same_by_bits : (xs ys : List ℕ) → length xs ≡ length ys → mask_l (zip2 nat_eq xs ys) + 1 ≡ 2 ^ length xs → xs ≡ ys
+same_by_bits [] [] e bits = refl
+same_by_bits [] (y ∷ ys) e bits = absurd (omega (arith, e))
+same_by_bits (x ∷ xs) [] e bits = absurd (omega (arith, e))
+same_by_bits (x ∷ xs) (y ∷ ys) e bits = by (nat_eq x y) refl bits (same_by_bits xs ys (omega (arith, e)))
+  where
+    by : (b : Bool) → nat_eq x y ≡ b → cond b 1 0 + 2 * mask_l (zip2 nat_eq xs ys) + 1 ≡ 2 ^ length (x ∷ xs)
+        → (mask_l (zip2 nat_eq xs ys) + 1 ≡ 2 ^ length xs → xs ≡ ys) → x ∷ xs ≡ y ∷ ys
+    by true is all behind = ap₂ (λ z zs. z ∷ zs) (eqb-true x y is) (behind (omega (arith, all, pow-suc 2 (length xs))))
+    by false is all behind = absurd (omega (arith, all, pow-suc 2 (length xs)))
+
+pub same_lanes : (xs ys : List ℕ) (n : ℕ) → length xs ≡ n → length ys ≡ n → n ≤ 64
+    → mask_l (map (top 7) (zip2 (λ a b. cond (nat_eq a b) 255 0) xs ys)) % 2 ^ 64 + 1 ≡ 2 ^ n → xs ≡ ys
+same_lanes xs ys n long other few all =
+    let bits =
+    ap (λ ms. mask_l ms % 2 ^ 64) (tops_compared w8 nat_eq xs ys)
+    ∙ mask_l-mod (zip2 nat_eq xs ys) 64 (omega (arith, length-zip2 nat_eq xs ys (long ∙ sym other), long, few)) in
+    same_by_bits xs ys (long ∙ sym other) (ap (λ m. m + 1) (sym bits) ∙ all ∙ ap (λ m. 2 ^ m) (sym long))
+
+-- the elements before an index are alike
+abbrev pub AreSameBefore : List ℕ → List ℕ → ℕ → Type 0
+AreSameBefore xs ys n = (k : ℕ) → k < n → get_or xs k 0 ≡ get_or ys k 0
+
+module _ (xs ys : List ℕ) (at n : ℕ) (same : chunk at n xs ≡ chunk at n ys) where
+  in_chunk : (zs : List ℕ) (k : ℕ) → at ≤ k → k < at + n → get_or zs k 0 ≡ get_or (chunk at n zs) (k - at) 0
+  in_chunk zs k from to =
+      let back : at + (k - at) ≡ k = omega (arith, from) in
+      ap (λ i. get_or zs i 0) (sym back) ∙ sym (get_or-drop at zs (k - at) 0) ∙ sym (get_or-take n (drop at zs) (k - at) 0 (omega (arith, from, to)))
+
+  pub same_on : AreSameBefore xs ys at → AreSameBefore xs ys (at + n)
+  same_on before k below =
+      elim (cases_lt k at) [
+        | inl early ↦ before k early
+        | inr late ↦ in_chunk xs k late below ∙ ap (λ zs. get_or zs (k - at) 0) same ∙ sym (in_chunk ys k late below)
+      ]

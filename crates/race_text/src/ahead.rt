@@ -99,7 +99,7 @@ fn read_at<A: Allocator + Copy>(
     ensures later { at < result.1 }
     ensures within { result.1 ≤ length bytes.now }
 {
-    let Some((said, rest)) = read_common(decls, bytes_from(bytes, at)) else {
+    let Some((said, rest)) = read_common::<LineAhead, A>(decls, bytes_from(bytes, at)) else {
         return (None, next_line(bytes, at));
     };
     let end = bytes.len() - rest.len();

@@ -57,9 +57,10 @@ pub struct Said<'a> {
     pub place: &'a [u8],
 }
 
-// The event that the line in front says, and the bytes behind its newline.
+// The event that the line in front says, and the bytes behind its newline. `R` is who reads: it is used for nothing but that
+// each caller has a copy of its own, which is inlined there.
 #[inline(always)]
-pub(crate) fn read_common<'a, A: Allocator>(
+pub(crate) fn read_common<'a, R, A: Allocator>(
     decls: &Decls<A>,
     bytes: &'a [u8],
 ) -> Option<(Said<'a>, &'a [u8])>

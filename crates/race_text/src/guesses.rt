@@ -2,6 +2,7 @@
 //! with the table, so it may be wrong, and a place that isn't guessed is looked for there.
 ghost use Rattle.std.specs.Prelude.{◌≡◌, ◌≤◌, length, Some, IfSome, slice_get};
 
+use crate::lanes::is_same;
 use race_records::Decls;
 use std::alloc::Allocator;
 
@@ -58,7 +59,7 @@ impl<A: Allocator + Copy> Guesses<A> {
         let guess = self.slots.as_slice().get(slot)?;
         if guess.mark == mark
             && guess.place < decls.place_count()
-            && decls.place_text(guess.place) == place
+            && is_same(decls.place_text(guess.place).as_bytes(), place.as_bytes())
         {
             Some(guess.place)
         } else {

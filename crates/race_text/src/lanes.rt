@@ -1,5 +1,5 @@
 //! Where a byte stands first. Many bytes are tested at once, as lanes of a vector.
-ghost use Rattle.std.specs.{Prelude.{◌≡◌, ◌==◌, ◌+◌, ◌<◌, ◌≤◌, position, not, map, length}, Simd.Lanes.{chunk, mask_l}};
+ghost use Rattle.std.specs.{Prelude.{◌≡◌, ◌==◌, ◌+◌, ◌<◌, ◌≤◌, position, not, map, length, IsTrue}, Simd.Lanes.{chunk, mask_l}};
 ghost use Rattle.race_records.specs.Name.{is_place_byte};
 
 use std::simd::prelude::*;
@@ -109,6 +109,66 @@ fn unseen_in_eight(bytes: &[u8], at: usize) -> u64
     (u8x8::from_slice(&bytes[at..]) - u8x8::splat(b'!'))
         .simd_ge(u8x8::splat(94))
         .to_bitmask()
+}
+
+// Whether both are alike. `false` promises nothing.
+#[inline(always)]
+pub(crate) fn is_same(left: &[u8], right: &[u8]) -> bool
+    ensures { IsTrue result → left.now ≡ right.now }
+{
+    if left.len() != right.len() {
+        return false;
+    }
+    if left.len() < 16 {
+        return is_same_in_few(left, right);
+    }
+    let last = left.len() - 16;
+    let mut at = 0;
+    while at < last {
+        if !is_same_at(left, right, at) {
+            return false;
+        }
+        at += 16;
+    }
+    is_same_at(left, right, last)
+}
+
+// The same of fewer than 16 bytes, of which there are as many in both.
+#[inline(always)]
+fn is_same_in_few(left: &[u8], right: &[u8]) -> bool
+    requires length { length left.now ≡ length right.now }
+    requires few { length left.now < 16 }
+    ensures { IsTrue result → left.now ≡ right.now }
+{
+    if left.len() < 8 {
+        return left == right;
+    }
+    let last = left.len() - 8;
+    is_same_in_eight(left, right, 0) && is_same_in_eight(left, right, last)
+}
+
+// Whether the 16 bytes at one place are alike.
+#[inline(always)]
+fn is_same_at(left: &[u8], right: &[u8], at: usize) -> bool
+    requires left { at + 16 ≤ length left.now }
+    requires right { at + 16 ≤ length right.now }
+    ensures { IsTrue result → chunk at 16 left.now ≡ chunk at 16 right.now }
+{
+    u8x16::from_slice(&left[at..])
+        .simd_eq(u8x16::from_slice(&right[at..]))
+        .all()
+}
+
+// The same of 8 bytes.
+#[inline(always)]
+fn is_same_in_eight(left: &[u8], right: &[u8], at: usize) -> bool
+    requires left { at + 8 ≤ length left.now }
+    requires right { at + 8 ≤ length right.now }
+    ensures { IsTrue result → chunk at 8 left.now ≡ chunk at 8 right.now }
+{
+    u8x8::from_slice(&left[at..])
+        .simd_eq(u8x8::from_slice(&right[at..]))
+        .all()
 }
 
 // The same of the last bytes, which are too few for a vector.

@@ -90,7 +90,7 @@ pub(crate) fn take_common_behind<'a, G, A: Allocator + Copy>(
     ensures declared { OnOk result (trace.new.decls.declarations ≡ trace.old.decls.declarations) }
     ensures places { OnOk result (spec.KeepsPlaces trace.old.decls.places trace.new.decls.places) }
 {
-    match read_common(trace.decls(), bytes) {
+    match read_common::<G, A>(trace.decls(), bytes) {
         None => Ok(None),
         Some((said, rest)) => match append_said(trace, before, guesses, said) {
             Ok(()) => Ok(Some(rest)),

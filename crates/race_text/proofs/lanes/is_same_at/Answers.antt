@@ -1,0 +1,11 @@
+use Rattle.std.proofs.Common.{◌^◌, nat_eq, arith}
+use Rattle.std.proofs.lemmas.{Bool.Decides.nat_tests, Simd.length-chunk}
+use lib.Lanes.{chunk}
+use Rattle.race_text.proofs.LaneLemmas.{same_lanes}
+use Rattle.race_text.proofs.lanes.is_same_at.Goals as goal
+
+pub returns : goal.returns
+returns c all =
+    same_lanes (chunk c.args.at 16 c.args.left.now) (chunk c.args.at 16 c.args.right.now) 16
+    (length-chunk c.args.at 16 c.args.left.now c.requires.left) (length-chunk c.args.at 16 c.args.right.now c.requires.right) (omega arith)
+    (grind (arith, nat_tests, all))

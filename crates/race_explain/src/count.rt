@@ -242,6 +242,12 @@ fn put_misfit<A: Allocator, B: Allocator>(
     match misfit(decls, fields, line) {
         Some(number) => if count > fields.len() {
             put_spare(out, count - fields.len())?;
+            if is_case_apart(fields, line) {
+                return put(
+                    out,
+                    &[", or a blank between cases, which a comma alone separates"],
+                );
+            }
             if number == fields.len() {
                 put_spaced_place(out, fields, line)?;
             }
@@ -262,6 +268,22 @@ fn put_spare<A: Allocator>(out: &mut Vec<u8, A>, count: usize) -> Result<(), All
         " words too many at the mark"
     };
     put_number_in(out, "; ", count as u64, words)
+}
+
+// Whether a case of a select is apart from the one before it.
+fn is_case_apart(fields: &[Field], line: &[u8]) -> bool {
+    if !fields.contains(&Field::Operand(OperandKind::Cases)) {
+        return false;
+    }
+    let Some(words) = from_word(line, 2) else {
+        return false;
+    };
+    let (cases, rest) = cut_at(words, b' ');
+    cases.ends_with(b",") || rest.is_some_and(|others| begins_case(others))
+}
+
+fn begins_case(words: &[u8]) -> bool {
+    words.starts_with(b",") || words.starts_with(b"send:") || words.starts_with(b"recv:")
 }
 
 // Which word is missing, where all others fit.
@@ -309,6 +331,9 @@ fn put_spaced_place<A: Allocator>(
     if place.is_some_and(|words| is_twice(words)) {
         return Ok(());
     }
+    if from_word(line, fields.len().saturating_add(1)).is_some_and(|words| is_comment(words)) {
+        return put(out, &[", or a comment, and a trace has none"]);
+    }
     put(out, &[", or a place with a blank, which no place has: "])?;
     match place {
         Some(place) => if place.len() <= LONGEST_PLACE && !has_two_places(fields) {
@@ -325,6 +350,11 @@ fn put_spaced_place<A: Allocator>(
 fn is_twice(words: &[u8]) -> bool {
     let (first, others) = cut_at(words, b' ');
     others.is_some_and(|second| second == first)
+}
+
+// Whether they begin as a comment does in most languages.
+fn is_comment(words: &[u8]) -> bool {
+    words.starts_with(b"#") || words.starts_with(b"//")
 }
 
 fn has_two_places(fields: &[Field]) -> bool {

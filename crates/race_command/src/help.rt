@@ -2,7 +2,8 @@
 
 pub(crate) const ABOUT: &str = "Judges recorded runs of goroutines by The Go Memory Model";
 
-pub(crate) const VERSION: &str = "0.1.0 (proved with rattle-kit-13f, logic dac8208d650f15bf)";
+pub(crate) const VERSION: &str =
+    "0.1.0 (sources proved with rattle-kit-13f, logic dac8208d650f15bf)";
 
 pub(crate) const AFTER_HELP: &str = "\
 'gorace check --help' says what a trace is, with an example, and what the statuses mean;
@@ -129,7 +130,7 @@ A check names two accesses of a variable that race. This draws why nothing
 orders them. Of the trace of 'gorace check --help' it draws
 
   races: 1
-  (... is the order that is missing, === the way of what was seen, --- another edge)
+  (... is the order that is missing, === a path from the last event seen, --- another edge)
 
   race on x: write by main at a.go:3 (event 2), read by w at a.go:6 (event 3)
 
@@ -345,9 +346,9 @@ Statuses:
   66  some run has data races
   0   no run has a race, and main returns in each
   10  none has a race, and in one a goroutine failed
-  11  as 10, but in one each goroutine waits, and none can go on
-  12  as 11, but in one the limit is reached, or there are more runs
-  13  as 12, but in one a goroutine asked what can't be
+  11  no race or failure, and in one each goroutine waits, and none can go on
+  12  none of these, and in one the limit is reached, or there are more runs
+  13  none of these, and in one a goroutine asked what can't be
   2   not a program; the line at fault and why
   3   usage
   4   memory was refused

@@ -40,7 +40,7 @@ drawing_text trace l =
 abbrev pub key : ℕ → List ℕ
 key events =
     if nat_lt MAX_PLAIN_EVENTS events then ended (codes "(... is the order that is missing; of more than 2,000 events no edge is drawn)")
-    else ended (codes "(... is the order that is missing, === the way of what was seen, --- another edge)")
+    else ended (codes "(... is the order that is missing, === a path from the last event seen, --- another edge)")
 
 -- how many races there are, the key, and each of them
 abbrev pub drawings_text : TraceState → List LayoutState → List ℕ

@@ -47,7 +47,7 @@ fn key(events: usize) -> &'static [u8]
     if events > MAX_PLAIN_EVENTS {
         b"(... is the order that is missing; of more than 2,000 events no edge is drawn)\n"
     } else {
-        b"(... is the order that is missing, === the way of what was seen, --- another edge)\n"
+        b"(... is the order that is missing, === a path from the last event seen, --- another edge)\n"
     }
 }
 

@@ -113,10 +113,11 @@ func (o user) useByte(op wire.Op, p unsafe.Pointer, offset uintptr) {
 	at := uintptr(p) & 7
 	word, bytes := unsafe.Add(p, -int(at)), uint8(1)<<at
 	sh := shardOf(word)
+	before := o.goesAlong(op, p)
 	if len(sh.spans.keys) > 0 && o.useByteOfSpan(op, sh, p) {
 		return
 	}
-	if at == 0 && sh.lookUp(word, inWord) < 0 && o.goesAlong(op, sh, p) {
+	if at == 0 && before >= loopBytes && exclusive && sh.lookUp(word, inWord) < 0 && o.joinsSpan(op, sh, p) {
 		return
 	}
 	i, x := sh.locate(word, inWord), uint64(*(*uint8)(p))
@@ -147,7 +148,7 @@ func (sh *shard) isApart(i int, o user, op wire.Op, bytes uint8) bool {
 		return false
 	}
 	l.apart = true
-	word, old := sh.keys[i].p, *l
+	word, old := sh.keys[i], *l
 	for k := 0; k < 8; k++ {
 		bit := uint8(1) << k
 		if (old.reads|old.writes)&bit == 0 {

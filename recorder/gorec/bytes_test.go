@@ -57,9 +57,7 @@ func TestBytes(t *testing.T) {
 	} {
 		record(t)
 		exclusive = true
-		for i := range shards {
-			shards[i].clear()
-		}
+		clearMemory()
 		b, other, ts = make([]byte, 64), make([]byte, 64), newTurns(t, 2)
 		c.run()
 		if got := accesses(); got != c.want {

@@ -47,7 +47,7 @@ func (o user) put(op wire.Op, object uint32, bytes uint8) {
 	}
 }
 
-// putRecord is put with a record of its own, with which a run may begin.
+// putRecord is put with its own record, which may begin a run (runs.go).
 func (o user) putRecord(op wire.Op, object uint32, bytes uint8) {
 	w := &o.g.window
 	w.countRuns()
@@ -120,7 +120,7 @@ func partly(bytes uint8) uint16 {
 
 // accessed has the lock, behind isOthers: these bytes of the variable are read or written.
 func (v *variable) accessed(o user, op wire.Op, bytes uint8) {
-	a := access{at: o.g.behind + 1, site: o.s.ID, stack: o.stack}
+	a := o.access()
 	if v.id == 0 {
 		v.keep(op, a, bytes)
 	} else {
@@ -164,7 +164,7 @@ func (v *variable) fits(o user, op wire.Op, bytes uint8) bool {
 	if op == wire.Write {
 		last, of = v.write, v.writes
 	}
-	return last.at == 0 || of&^bytes == 0 || last.is(access{o.g.behind + 1, o.s.ID, o.stack})
+	return last.at == 0 || of&^bytes == 0 || last.is(o.access())
 }
 
 // repeats has the lock. It reports whether a write of these bytes would repeat the goroutine's

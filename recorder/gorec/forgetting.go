@@ -65,7 +65,7 @@ func (sh *shard) isCrowded() bool { return partRecords > 0 && sh.met >= sh.limit
 func (sh *shard) oldest() uint8 {
 	var count [ages]int
 	for i := range sh.keys {
-		if sh.keys[i].p != nil && sh.mayGo(i, 0) {
+		if sh.keys[i] != nil && sh.mayGo(i, 0) {
 			count[least(sh.age-sh.entries[i].age, ages-1)]++
 		}
 	}
@@ -87,14 +87,14 @@ func least(a, b uint8) uint8 {
 // least so many ages.
 func (sh *shard) forget(unused uint8) {
 	for i := range sh.entries {
-		if l := &sh.entries[i]; l.apart && sh.bytesMayGo(i, unused) {
+		if l := &sh.entries[i]; l.apart && sh.keys[i] != nil && sh.bytesMayGo(i, unused) {
 			l.apart, l.age = false, sh.age-unused
 		}
 	}
 	before := sh.met
 	for i := range sh.keys {
-		if sh.keys[i].p != nil && sh.mayGo(i, unused) {
-			sh.keys[i] = key{}
+		if sh.keys[i] != nil && sh.mayGo(i, unused) {
+			sh.keys[i], sh.repeaters[i] = nil, nil
 			sh.met--
 		}
 	}
@@ -112,14 +112,14 @@ func forgot(gone uint32) {
 
 func (sh *shard) mayGo(i int, unused uint8) bool {
 	l := &sh.entries[i]
-	return l.id == 0 && !l.apart && sh.age-l.age >= unused && !sh.keys[i].mayRepeat(l)
+	return l.id == 0 && !l.apart && sh.age-l.age >= unused && !sh.mayRepeat(i)
 }
 
 // bytesMayGo reports whether all may go that the bytes of a word have.
 func (sh *shard) bytesMayGo(word int, unused uint8) bool {
 	for b := 0; b < 8; b++ {
-		i := sh.find(unsafe.Add(sh.keys[word].p, b), wire.VarMemory)
-		if sh.keys[i].p != nil && !sh.mayGo(i, unused) {
+		i := sh.find(unsafe.Add(sh.keys[word], b), wire.VarMemory)
+		if sh.keys[i] != nil && !sh.mayGo(i, unused) {
 			return false
 		}
 	}

@@ -9,5 +9,9 @@ const hasFramePointers = true
 func framePointer() unsafe.Pointer
 func stackTop() uintptr
 
+// hashReturns follows the frame pointers from that of who calls it. In Go it would take as long
+// again, where a loop over bytes asks for each.
+func hashReturns() stackKey
+
 // writesInOrder reports whether others see what a processor writes in the order in which it does.
 const writesInOrder = true

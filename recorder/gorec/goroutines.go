@@ -18,18 +18,19 @@ type G struct {
 	id       uint32
 	settled  uint32 // the news that it has taken in
 	random   uint32
-	epoch    uint32 // grows with each operation that may order something
-	behind   uint32 // the steps up to its last such operation
-	part     uint32 // the last one that it is in
+	epoch    uint32         // grows with each operation that may order something
+	behind   uint32         // the steps up to its last such operation
+	part     uint32         // the last one that it is in
+	ended    uint32         // leaves to repeat a write that others ended
+	unlocked uint32         // 1: it reads without a lock
+	didMore  uint32         // 1: it has read or written a variable since others noted that it hadn't
+	runs     *[runsKept]run // nil before its first record of a variable
+	window   window
+	reads    repeats
+	writes   repeats
 	tables   uint32 // the part that reads and writes are of
 	site     uint32 // where it was started
 	stack    uint32
-	window   window
-	runs     *[runsKept]run // nil before its first record of a variable
-	reads    repeats
-	writes   repeats
-	ended    uint32        // leaves to repeat a write that others ended
-	unlocked uint32        // 1: it reads without a lock
 	wake     chan struct{} // lets it go on where it waits for others
 	waiter   waiter
 
@@ -44,7 +45,9 @@ type G struct {
 	lastOut uint32 // the order of its last write to a file or a connection
 	taken   uint32 // the newest order of sentOut that it is behind
 	joined  uint32 // the epoch up to which others are behind it
-	didMore uint32 // 1: it has read or written a variable since
+
+	loops [loopsKept]byteLoop
+	key   stackKey // the last one that atClaimed found, and that its loop hasn't
 }
 
 // tag is what a goroutine's label points to. Nothing but the goroutine, and those that code

@@ -17,6 +17,7 @@ type location struct {
 	kind  wire.VarKind
 	known uint8 // the bytes of bits that are what it holds, unless others write without a record
 	apart bool  // its bytes have locations of their own
+	lent  bool  // a goroutine has, or had, the leave to repeat the last write
 	age   uint8 // the shard's when it was used last
 }
 
@@ -133,10 +134,10 @@ func (o user) readAt(sh *shard, i int, bits uint64, bytes uint8, offset uintptr)
 		o.put(wire.Unseen, l.id, whole)
 	}
 	l.hold(bits, bytes)
-	if sh.keys[i].mayRepeat(l) {
+	if sh.mayRepeat(i) {
 		l.known &^= bytes
 	}
-	l.show(sh.keys[i].p)
+	l.show(sh.keys[i])
 	if !l.covers(o, bytes) {
 		l.accessed(o, wire.Read, bytes)
 	}
@@ -172,9 +173,9 @@ func (o user) wroteAt(sh *shard, i int, bits uint64, bytes uint8, offset uintptr
 	}
 	l.age = sh.age
 	l.hold(bits, bytes)
-	sh.keys[i].endLeave(l, o.g)
+	sh.endLeave(i, o.g)
 	l.isOthers(o, l.kind&^inWord, offset)
-	l.show(sh.keys[i].p)
+	l.show(sh.keys[i])
 	l.accessed(o, wire.Write, bytes)
 	return false
 }

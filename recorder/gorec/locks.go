@@ -70,7 +70,7 @@ func tried(ok bool, p unsafe.Pointer, kind uint8, op wire.Op, s *Site) bool {
 	switch {
 	case ok:
 		locked(p, kind, op, s)
-	case !off && writesFailures():
+	case !off && forPredictions:
 		g := current(s)
 		begin()
 		g.enter()

@@ -8,12 +8,13 @@
 // (shards.go). So the records of steps stand in an order in which these did happen one after
 // another, and each access says after how many of them it comes. What can wait never waits
 // with a lock held. Accesses that repeat others and have no record are done without one
-// (repeats.go), and most reads of what several goroutines use (shadow.go).
+// (repeats.go), as are most of a loop over bytes (loops.go) and most reads of what several
+// goroutines use (shadow.go).
 //
 // Read (variables.go) comes by user.read (locations.go) to accessed (exclusive.go), which keeps
 // the access or writes its record. What may order, such as Send (channels.go) by sent
-// (communicate.go), is written by step or write (log.go). init has openLog (windows.go) map the
-// log, where take finds room; wire/record.go has a record's form.
+// (communicate.go), takes mu by begin (parts.go), and step or write (log.go) writes it. init has
+// openLog (windows.go) map the log, where take finds room; wire/record.go has a record's form.
 package gorec
 
 import (
@@ -110,11 +111,13 @@ func setVersion(s string) error {
 		version = n
 	}
 	header.Version = uint8(version)
+	forPredictions = version >= 2
 	return nil
 }
 
-// writesFailures reports whether a TryLock that doesn't succeed has a record.
-func writesFailures() bool { return header.Version >= 2 }
+// forPredictions is whether the trace may be searched for races of other orders. Then a TryLock that
+// doesn't succeed has a record too.
+var forPredictions bool
 
 // write has the lock. The record stands where it is written.
 func write(r wire.Record) {

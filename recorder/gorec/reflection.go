@@ -246,7 +246,7 @@ func (w *walk) compare(p unsafe.Pointer, f leaf) {
 	switch {
 	case w.settle:
 		if l.isMet() && !settled {
-			sh.keys[i].endLeave(l, w.g)
+			sh.endLeave(i, w.g)
 			l.hold(bits, bytes)
 		}
 	case l.isMet() && settled && (bits^l.bits)&spread(bytes) != 0 || !l.isMet() && bits != 0:

@@ -142,26 +142,30 @@ func (g *G) giveLeave(p unsafe.Pointer, size uintptr) {
 	sh := shardOf(p)
 	i := sh.locate(p, wire.VarMemory)
 	l := &sh.entries[i]
-	sh.keys[i].repeater, l.stamp, l.known = g, g.stamp(), 0
+	sh.repeaters[i], l.lent, l.stamp, l.known = g, true, g.stamp(), 0
 	g.writes.note(repeatOf(p, size, l.stamp))
 }
 
 // mayRepeat has the lock: a goroutine may be repeating a write of the location.
-func (k *key) mayRepeat(l *location) bool { return k.repeater != nil && k.repeater.stamp() == l.stamp }
+func (sh *shard) mayRepeat(i int) bool {
+	l := &sh.entries[i]
+	return l.lent && sh.repeaters[i].stamp() == l.stamp
+}
 
 // endLeave has the lock, for the goroutine g. What another one has begun to write may still
 // come.
-func (k *key) endLeave(l *location, g *G) {
-	if k.repeater == nil {
+func (sh *shard) endLeave(i int, g *G) {
+	l := &sh.entries[i]
+	if !l.lent {
 		return
 	}
-	if k.mayRepeat(l) {
-		if k.repeater == g && l.write.site != 0 {
-			g.writes.drop(k.p)
+	if sh.mayRepeat(i) {
+		if r := sh.repeaters[i]; r == g && l.write.site != 0 {
+			g.writes.drop(sh.keys[i])
 		} else {
-			atomic.AddUint32(&k.repeater.ended, 1)
+			atomic.AddUint32(&r.ended, 1)
 			l.known = 0
 		}
 	}
-	k.repeater = nil
+	sh.repeaters[i], l.lent = nil, false
 }

@@ -23,8 +23,8 @@ const (
 	fewest     = 1 << 6         // entries of a table
 )
 
-// A shard is a table of locations by their addresses. A key keeps its memory alive, so that an
-// address is never given to another location; and since an address that is in the table
+// A shard is a table of locations by their addresses. A key, which is an address, keeps its memory
+// alive, so that it is never given to another location; and since an address that is in the table
 // escapes, it is never one of a stack. What else is known is kept out of the reach of Go's
 // collector, which would let the heap grow by twice as much.
 type shard struct {
@@ -41,13 +41,9 @@ type shard struct {
 }
 
 type table struct {
-	keys    []key
-	entries []location
-}
-
-type key struct {
-	p        unsafe.Pointer
-	repeater *G // who has the leave to repeat the last write without the lock, while its stamp is the location's
+	keys      []unsafe.Pointer
+	repeaters []*G       // who has the leave to repeat the last write without the lock, while its stamp is the location's
+	entries   []location // where there is no key anything may stand
 }
 
 var shards [shardCount]shard
@@ -134,7 +130,7 @@ func unlockAll() {
 
 // lookUp has the lock. It is the number of the entry, which is good until the next call, or -1.
 func (sh *shard) lookUp(p unsafe.Pointer, kind wire.VarKind) int {
-	if i := sh.placeOf(p, kind); i < len(sh.keys) && sh.keys[i].p != nil {
+	if i := sh.placeOf(p, kind); i < len(sh.keys) && sh.keys[i] != nil {
 		return i
 	}
 	return -1
@@ -142,17 +138,16 @@ func (sh *shard) lookUp(p unsafe.Pointer, kind wire.VarKind) int {
 
 // placeOf is the number of the entry, or where there would be one. A table without entries has none.
 func (sh *shard) placeOf(p unsafe.Pointer, kind wire.VarKind) int {
-	for i := sh.last; i < len(sh.keys) && i <= sh.last+1; i++ { // where the last one was found, or beside it
-		if sh.keys[i].p == p && sh.entries[i].kind == kind {
-			sh.last = i
-			return i
-		}
-	}
 	if len(sh.keys) == 0 {
 		return 0
 	}
+	// as far from the last one as in memory, where words of a block are looked for first
+	if i := sh.last + (int(uintptr(p))-int(uintptr(sh.keys[sh.last])))>>3; uint(i) < uint(len(sh.keys)) && sh.keys[i] == p && sh.entries[i].kind == kind {
+		sh.last = i
+		return i
+	}
 	i := sh.find(p, kind)
-	if sh.keys[i].p != nil {
+	if sh.keys[i] != nil {
 		sh.last = i
 	}
 	return i
@@ -166,7 +161,7 @@ func (sh *shard) locate(p unsafe.Pointer, kind wire.VarKind) int {
 		sh.resize(fewest)
 		sh.limit = firstLimit()
 		i = sh.find(p, kind)
-	case sh.keys[i].p != nil:
+	case sh.keys[i] != nil:
 		return i
 	case sh.met*4 >= len(sh.keys)*3 || sh.isCrowded():
 		sh.makeRoom()
@@ -177,8 +172,8 @@ func (sh *shard) locate(p unsafe.Pointer, kind wire.VarKind) int {
 	if sh.fresh++; sh.fresh >= sh.limit/ages {
 		sh.age, sh.fresh = sh.age+1, 0
 	}
-	sh.keys[i].p = p
-	sh.entries[i].kind = kind
+	sh.keys[i] = p
+	sh.entries[i] = location{kind: kind}
 	if kind == inWord {
 		sh.split.add(p)
 	}
@@ -196,7 +191,7 @@ func (sh *shard) find(p unsafe.Pointer, kind wire.VarKind) int { return sh.findA
 func (sh *shard) findAt(p uintptr, kind wire.VarKind) int {
 	mask := uintptr(len(sh.keys) - 1)
 	i := hash(p) & mask
-	for sh.keys[i].p != nil && (uintptr(sh.keys[i].p) != p || sh.entries[i].kind != kind) {
+	for sh.keys[i] != nil && (uintptr(sh.keys[i]) != p || sh.entries[i].kind != kind) {
 		i = (i + stride) & mask
 	}
 	return int(i)
@@ -212,14 +207,14 @@ func hash(h uintptr) uintptr {
 // resize has the lock. It makes a table of so many entries, without those that aren't kept.
 func (sh *shard) resize(size int) {
 	old := sh.table
-	sh.table, sh.split = newTable(size), blocks{}
+	sh.table, sh.split, sh.last = newTable(size), blocks{}, 0
 	for i := range old.keys {
-		if old.keys[i].p != nil {
+		if old.keys[i] != nil {
 			if old.entries[i].kind == inWord {
-				sh.split.add(old.keys[i].p)
+				sh.split.add(old.keys[i])
 			}
-			at := sh.find(old.keys[i].p, old.entries[i].kind)
-			sh.keys[at], sh.entries[at] = old.keys[i], old.entries[i]
+			at := sh.find(old.keys[i], old.entries[i].kind)
+			sh.keys[at], sh.repeaters[at], sh.entries[at] = old.keys[i], old.repeaters[i], old.entries[i]
 		}
 	}
 	old.free()
@@ -228,7 +223,7 @@ func (sh *shard) resize(size int) {
 // clear has the lock.
 func (sh *shard) clear() {
 	sh.table.free()
-	sh.table, sh.met, sh.split = table{}, 0, blocks{}
+	sh.table, sh.met, sh.split, sh.last = table{}, 0, blocks{}, 0
 	sh.spans.clear()
 }
 
@@ -245,7 +240,7 @@ func newTable(size int) table {
 		spare = table{}
 		return t
 	}
-	return table{make([]key, size), outside[location](size)}
+	return table{make([]unsafe.Pointer, size), make([]*G, size), outside[location](size)}
 }
 
 // free keeps the table where it is larger than the spare one.
@@ -255,10 +250,7 @@ func (t table) free() {
 	if len(t.keys) > len(spare.keys) {
 		t, spare = spare, t
 		for i := range spare.keys {
-			spare.keys[i] = key{}
-		}
-		for i := range spare.entries {
-			spare.entries[i] = location{}
+			spare.keys[i], spare.repeaters[i] = nil, nil
 		}
 	}
 	freeEntries(t.entries)

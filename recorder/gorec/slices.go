@@ -1,5 +1,7 @@
 package gorec
 
+import "unsafe"
+
 // Range begins a loop over a slice: the slice, the index, and the loop's own variables.
 func Range[T any](a []T) ([]T, int, T) {
 	var value T
@@ -117,10 +119,27 @@ func Copy[T any](s *Site, to, from []T) int {
 	if len(from) > len(to) {
 		from = from[:len(to)]
 	}
+	to = to[:len(from)]
 	o := current(s).at(s)
-	readElements(o, from)
-	move(o, to[:len(from)], from)
+	readElements(o, notIn(from, to))
+	move(o, to, from)
 	return len(from)
+}
+
+// notIn are the elements that are copied and not written, where a slice is moved along itself. Whoever
+// races with a read of the others races with the write too. In a trace for predictions they are read.
+func notIn[T any](from, to []T) []T {
+	if len(from) == 0 || unsafe.Sizeof(from[0]) == 0 || forPredictions {
+		return from
+	}
+	n := int(uintptr(unsafe.Pointer(&to[0]))-uintptr(unsafe.Pointer(&from[0]))) / int(unsafe.Sizeof(from[0]))
+	switch {
+	case n > 0 && n < len(from):
+		return from[:n]
+	case n <= 0 && -n < len(from):
+		return from[len(from)+n:]
+	}
+	return from
 }
 
 // Clear sets all elements to zero.

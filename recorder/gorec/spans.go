@@ -16,7 +16,7 @@ import (
 
 const (
 	fewestWords = 8           // that are used at once make a span
-	loopWords   = 4           // of a loop have locations before the others are in a span
+	loopBytes   = 32          // of a loop have locations before the others are in a span
 	spanKept    = 4           // accesses of a span
 	mostSpans   = enough / 16 // of a shard
 	slotBits    = 9
@@ -43,12 +43,13 @@ type blockBytes [block / 64]uint64
 // spans are those of a shard, by their blocks. What keeps their memory alive is in the reach of
 // Go's collector, all else out of it.
 type spans struct {
-	slots []uint16 // one more than the number of a span, 0 for none
-	keys  []unsafe.Pointer
-	loops []*[block / 8]unsafe.Pointer // of a span that a loop made: its words, which may be of several objects
-	all   []span
-	hand  int // the next one that may have to go
-	used  int // the last one that was used
+	slots  []uint16 // one more than the number of a span, 0 for none
+	keys   []unsafe.Pointer
+	loops  []*[block / 8]unsafe.Pointer // of a span that a loop made: its words, which may be of several objects
+	claims []*byteLoop                  // of loops that go on in the span's block
+	all    []span
+	hand   int // the next one that may have to go
+	used   int // the last one that was used
 }
 
 // blocks are some of a shard's blocks, and others that have the same bit as one of them.
@@ -120,9 +121,13 @@ func (o user) useSpans(op wire.Op, sh *shard, b blockPart) (rest uint64, joined 
 	}
 	for i := home(b.p); t.slots[i] != 0; i = (i + 1) % spanSlots {
 		n := int(t.slots[i] - 1)
+		if uintptr(t.keys[n])>>blockBits != uintptr(b.p)>>blockBits {
+			continue
+		}
+		t.settle(n)
 		s := &t.all[n]
 		words := s.words & rest
-		if words == 0 || uintptr(t.keys[n])>>blockBits != uintptr(b.p)>>blockBits {
+		if words == 0 {
 			continue
 		}
 		if s.owner == o.g.id+1 && s.use(o, op, b.bytes(words)) {
@@ -134,17 +139,24 @@ func (o user) useSpans(op wire.Op, sh *shard, b blockPart) (rest uint64, joined 
 	return rest, joined
 }
 
-// useByteOfSpan has the lock. It is useSpans of one byte; it reports whether that is in a span. A
-// loop does with one byte what it did with the one before.
+// useByteOfSpan has the lock. It is useSpans of one byte; it reports whether that is in a span.
 func (o user) useByteOfSpan(op wire.Op, sh *shard, p unsafe.Pointer) bool {
-	t, at := &sh.spans, uintptr(p)%block
-	s := &t.all[t.used]
-	if t.used < len(t.keys) && uintptr(t.keys[t.used])>>blockBits == uintptr(p)>>blockBits &&
-		s.words>>(at/8)&1 != 0 && s.owner == o.g.id+1 && s.goesOn(o, op, at) {
+	if o.isInUsedSpan(op, sh, p) {
 		return true
 	}
 	rest, _ := o.useSpans(op, sh, partOf(p, 1))
 	return rest == 0
+}
+
+// isInUsedSpan is useByteOfSpan where a loop does with one byte what it did with the one before.
+func (o user) isInUsedSpan(op wire.Op, sh *shard, p unsafe.Pointer) bool {
+	t, at := &sh.spans, uintptr(p)%block
+	if t.used >= len(t.keys) || uintptr(t.keys[t.used])>>blockBits != uintptr(p)>>blockBits {
+		return false
+	}
+	t.settle(t.used)
+	s := &t.all[t.used]
+	return s.words>>(at/8)&1 != 0 && s.owner == o.g.id+1 && s.goesOn(o, op, at)
 }
 
 // goesOn is use of one byte, where it does what an access that is kept did.
@@ -178,63 +190,45 @@ func (s *span) goesOn(o user, op wire.Op, byteAt uintptr) bool {
 	return true
 }
 
-// goesAlong has the lock: a byte is used that begins a word of which nothing is known. It reports
-// whether a loop came there that has done the same with all bytes before it. Then a span has it.
-func (o user) goesAlong(op wire.Op, sh *shard, p unsafe.Pointer) bool {
-	b := partOf(p, 1)
-	w := int(b.lo / 8)
-	if w < loopWords || !exclusive {
-		return false
-	}
-	t, a := &sh.spans, access{at: o.g.behind + 1, site: o.s.ID, stack: o.stack}
+// joinsSpan has the lock: a loop comes to a byte that begins a word of which nothing is known. It
+// reports whether a span of the goroutine's has it from now on.
+func (o user) joinsSpan(op wire.Op, sh *shard, p unsafe.Pointer) bool {
+	t, b := &sh.spans, partOf(p, 1)
 	n := t.used
-	if n >= len(t.keys) || uintptr(t.keys[n])>>blockBits != uintptr(p)>>blockBits || !t.all[n].ends(o, op, a, w) {
-		if !sh.hasDone(o, op, a, uintptr(p)-8) || !sh.hasDone(o, op, a, uintptr(p)-8*loopWords) || sh.newSpan(p) == nil {
-			return false
+	if n >= len(t.keys) || uintptr(t.keys[n])>>blockBits != uintptr(p)>>blockBits || t.all[n].owner != o.g.id+1 {
+		if n = t.spanOf(o.g, p); n < 0 {
+			if sh.newSpan(p) == nil {
+				return false
+			}
+			n = t.used
+			t.all[n].owner, t.all[n].site = o.g.id+1, o.s.ID
 		}
-		n = t.used
-		t.all[n].owner, t.all[n].site = o.g.id+1, o.s.ID
+		t.used = n
 	}
-	s := &t.all[n]
+	s, w := &t.all[n], int(b.lo/8)
 	if !s.use(o, op, b.bytes(1<<w)) {
 		return false
 	}
-	s.words |= 1 << w
-	if t.loops[n] == nil {
-		t.loops[n] = new([block / 8]unsafe.Pointer)
-	}
-	t.loops[n][w] = p
-	atomic.AddUint32(&header.Variables, 1)
+	t.join(n, p)
 	return true
 }
 
-// ends reports whether an access of the span is of all bytes of the word before.
-func (s *span) ends(o user, op wire.Op, a access, w int) bool {
-	for i := range s.kept {
-		if l := &s.kept[i]; l.op == op && l.is(a) {
-			return s.owner == o.g.id+1 && s.words>>(w-1)&1 != 0 && uint8(l.bytes[(w-1)/8]>>((w-1)%8*8)) == whole
+// spanOf is a span that a goroutine has of a block, or -1.
+func (t *spans) spanOf(g *G, p unsafe.Pointer) int {
+	if len(t.keys) == 0 {
+		return -1
+	}
+	for i := home(p); t.slots[i] != 0; i = (i + 1) % spanSlots {
+		if n := int(t.slots[i] - 1); uintptr(t.keys[n])>>blockBits == uintptr(p)>>blockBits && t.all[n].owner == g.id+1 {
+			return n
 		}
 	}
-	return false
-}
-
-// hasDone has the lock. It reports whether this access was of all bytes of a word that has a location.
-func (sh *shard) hasDone(o user, op wire.Op, a access, word uintptr) bool {
-	if len(sh.keys) == 0 {
-		return false
-	}
-	i := sh.findAt(word, inWord)
-	if sh.keys[i].p == nil {
-		return false
-	}
-	l := &sh.entries[i]
-	last, of := l.lastOf(op)
-	return l.id == 0 && !l.apart && l.owner == o.g.id+1 && last.is(a) && *of == whole
+	return -1
 }
 
 // use has the lock. The owner uses bytes; it reports whether the span can keep that.
 func (s *span) use(o user, op wire.Op, bytes blockBytes) bool {
-	a := access{at: o.g.behind + 1, site: o.s.ID, stack: o.stack}
+	a := o.access()
 	left := uint64(0)
 	for i := range s.kept { // what the goroutine repeats
 		l := &s.kept[i]
@@ -375,6 +369,7 @@ func (sh *shard) leaveAt(word unsafe.Pointer) {
 	for i := home(word); t.slots[i] != 0; i = (i + 1) % spanSlots {
 		n := int(t.slots[i] - 1)
 		if uintptr(t.keys[n])>>blockBits == uintptr(word)>>blockBits {
+			t.settle(n)
 			sh.leave(n, b.words())
 		}
 	}
@@ -412,7 +407,7 @@ func (sh *shard) newSpan(p unsafe.Pointer) *span {
 	n := len(t.keys)
 	switch {
 	case n < mostSpans:
-		t.keys, t.loops = append(t.keys, p), append(t.loops, nil)
+		t.keys, t.loops, t.claims = append(t.keys, p), append(t.loops, nil), append(t.claims, nil)
 	case partRecords == 0:
 		return nil
 	default:
@@ -436,6 +431,7 @@ func (t *spans) giveUp() int {
 	}
 	n := t.hand
 	t.hand = (t.hand + 1) % len(t.keys)
+	t.settle(n)
 	i := home(t.keys[n])
 	for t.slots[i] != uint16(n+1) {
 		i = (i + 1) % spanSlots
@@ -469,7 +465,8 @@ func (t *spans) clear() {
 		t.slots[i] = 0
 	}
 	for i := range t.keys {
+		t.settle(i)
 		t.keys[i], t.loops[i] = nil, nil
 	}
-	t.keys, t.loops, t.hand = t.keys[:0], t.loops[:0], 0
+	t.keys, t.loops, t.claims, t.hand = t.keys[:0], t.loops[:0], t.claims[:0], 0
 }

@@ -55,9 +55,7 @@ func TestSpans(t *testing.T) {
 		record(t)
 		exclusive = true
 		records = make([]wire.Record, 1<<14)
-		for i := range shards {
-			shards[i].clear()
-		}
+		clearMemory()
 		b, ts := make([]byte, 1+random.Intn(1500)), newTurns(t, 3)
 		m := newModel()
 		var owner, last uint32

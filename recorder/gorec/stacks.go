@@ -1,7 +1,6 @@
 package gorec
 
 import (
-	"math/bits"
 	"os"
 	"strconv"
 	"sync"
@@ -72,30 +71,9 @@ func numberOf(key stackKey) uint32 {
 	return id
 }
 
-// hashReturns follows the frame pointers. It is nosplit, and calls what is too, so the stack
-// doesn't move meanwhile. Each leads to the next one, above which the return address stands.
-//
-//go:nosplit
-//go:noinline
-func hashReturns() stackKey {
-	const word = unsafe.Sizeof(uintptr(0))
-	high := stackTop() - 2*word
-	h := uint64(0)
-	fp := framePointer()
-	for n := 0; n < deepest && fp != nil && uintptr(fp) < high; n++ {
-		h = bits.RotateLeft64(h, 11)*5 + uint64(*(*uintptr)(unsafe.Add(fp, word)))
-		next := *(*unsafe.Pointer)(fp)
-		if uintptr(next) <= uintptr(fp) {
-			break
-		}
-		fp = next
-	}
-	h = (h ^ h>>32) * 0x9e3779b97f4a7c15
-	return stackKey(h ^ h>>29)
-}
-
-// followReturns follows them as hashReturns does, keeps the return addresses, and answers how many
-// there are.
+// followReturns follows the frame pointers as hashReturns does, keeps the return addresses, and
+// answers how many there are. It is nosplit, and calls what is too, so the stack doesn't move
+// meanwhile. Each leads to the next one, above which the return address stands.
 //
 //go:nosplit
 //go:noinline

@@ -4,6 +4,8 @@ import (
 	"reflect"
 	"sync/atomic"
 	"unsafe"
+
+	"gorace.local/recorder/wire"
 )
 
 func layoutAt[T any](p *T, s *Site) *layout {
@@ -52,6 +54,15 @@ func Read[T any](p *T, s *Site) T {
 	if g.hasRead(unsafe.Pointer(p), unsafe.Sizeof(*p)) {
 		return *p
 	}
+	if unsafe.Sizeof(*p) == 1 {
+		if l := g.atClaimed(wire.Read, unsafe.Pointer(p), s); l != nil {
+			v := *p
+			if !g.comesTo(l, unsafe.Pointer(p)) {
+				g.at(s).cameTo(wire.Read, unsafe.Pointer(p))
+			}
+			return v
+		}
+	}
 	return readBy(p, g.at(s))
 }
 
@@ -72,6 +83,11 @@ func read[T any](p *T, s *Site) (v T, o user) {
 // readBy is a read of who hasn't read the same.
 func readBy[T any](p *T, o user) (v T) {
 	l := layoutAt(p, o.s)
+	if unsafe.Sizeof(*p) == 1 && l.single == 1 {
+		if v, ok := readInLoop(o, p); ok {
+			return v
+		}
+	}
 	if l.single != 0 && l.single <= 8 && o.readsShown(unsafe.Pointer(p), l.single) {
 		return *p
 	}
@@ -92,12 +108,23 @@ func setBy[T any](p *T, v T, s *Site, o user) {
 		return
 	}
 	g := current(s)
+	if unsafe.Sizeof(*p) == 1 {
+		if l := g.atClaimed(wire.Write, unsafe.Pointer(p), s); l != nil {
+			if *p = v; !g.comesTo(l, unsafe.Pointer(p)) {
+				g.at(s).cameTo(wire.Write, unsafe.Pointer(p))
+			}
+			return
+		}
+	}
 	if g.hasLeave(unsafe.Pointer(p), unsafe.Sizeof(*p)) {
 		*p = v
 		return
 	}
 	if o.g != g {
 		o = g.at(s)
+	}
+	if unsafe.Sizeof(*p) == 1 && layoutAt(p, s).single == 1 && writtenInLoop(o, p, v) {
+		return
 	}
 	h := g.hold(unsafe.Pointer(p), unsafe.Sizeof(*p))
 	*p = v

@@ -49,14 +49,14 @@ type Record struct {
 // Op says what a record is.
 type Op uint8
 
-// The fields that a record has beside Goroutine and Site stand behind its Op. The records
-// stand in the order in which the operations were done, but for those of variables: such a one
-// was done behind as many others as its Value says. The Count of a Read or a Write is 0, or has
+// The fields that a record has beside Goroutine and Site are listed after its Op. The records
+// are in the order in which the operations were done, but for those of variables: such a one
+// was done after as many others as its Value says. The Count of a Read or a Write is 0, or has
 // a bit for each byte of the variable that it is about; where Other isn't 0, so many variables with
-// the numbers behind Object are accessed too.
+// the next numbers after Object are accessed too.
 const (
 	None            Op = iota // nothing was written here
-	DeclareVar                // Object; Value: the offset in what the site names; Kind: a VarKind
+	DeclareVar                // Object, Value; OtherSite: the offset in what the site names; Kind: a VarKind
 	DeclareChan               // Object; Value: the capacity
 	DeclareLock               // Object; Kind 1: an rwmutex
 	DeclareOnce               // Object

@@ -3,9 +3,10 @@
 //
 // run (run.go) has instrument (build.go) copy the program, and Build (internal/instrument) build
 // it. repeat (recording.go) calls once, whose recordAndJudge runs it by record, while follow
-// (segments.go) has each log judged: judgeSegment writes a trace, and ask (judge.go) runs gorace
-// and prints its report, which read (predicted.go) takes apart. explain and tell (report.go) and
-// tellTrace (tracefile.go) print the rest.
+// (segments.go) has judgePart judge each log of the run: judgeSegment writes a trace, and ask
+// (judge.go) runs gorace and prints its report, from which read (predicted.go) takes the predicted
+// lines. explain and tell (report.go), tellPredicted (predicted.go) and tellTrace (tracefile.go)
+// print the rest.
 package main
 
 import (

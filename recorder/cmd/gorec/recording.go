@@ -267,7 +267,7 @@ func (s *session) record(t *target, c *console, log string, o *outcome) error {
 	return nil
 }
 
-// partRecords is how many records a part of the log has.
+// partRecords is how many records each part of the run, one log, has.
 func (s *session) partRecords(t *target) int {
 	switch {
 	case s.records > 0:

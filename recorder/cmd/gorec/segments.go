@@ -16,7 +16,8 @@ import (
 	"gorace.local/recorder/wire"
 )
 
-// How many records a part of a log has, unless -records says it: of tests more, since they end.
+// How many records a part, one log of a run, has, unless -records says it: of tests more, since
+// they end.
 // There are two parts at most: one that is written, and one that is judged meanwhile.
 const (
 	fewestRecords = 1 << 10

@@ -4,6 +4,9 @@ import (
 	"os"
 	"os/exec"
 	"path/filepath"
+	"regexp"
+	"sort"
+	"strings"
 	"testing"
 )
 
@@ -67,6 +70,31 @@ func TestLoopVariables(t *testing.T) {
 		got, err := recorded.Output()
 		if err != nil || string(got) != string(want) {
 			t.Errorf("go line %s: %v\n%sbut plain\n%s", line, err, got, want)
+		}
+	}
+}
+
+// TestByteLoops: where the loops of two goroutines come to one byte, that is told with their places,
+// though a loop writes no record of most bytes.
+func TestByteLoops(t *testing.T) {
+	requireJudge(t)
+	program := filepath.Join(t.TempDir(), "byteloops")
+	build(t, programs, "./byteloops", program)
+	traces := map[string]string{}
+	for _, seed := range append(seeds, "0") {
+		traces[seed] = record(t, program, seed, "0")
+	}
+	race := regexp.MustCompile(`(?m)^race on \S+: (write|read) by \S+ at byteloops/main.go:(\d+) .*, (write|read) by \S+ at byteloops/main.go:(\d+) `)
+	for seed, report := range judgeAll(t, traces) {
+		all := race.FindAllStringSubmatch(report, -1)
+		for _, m := range all {
+			sort.Strings(m[1:])
+			if strings.Join(m[1:], " ") != "18 24 read write" {
+				t.Errorf("seed %s: %s", seed, m[0])
+			}
+		}
+		if len(all) != 5 {
+			t.Errorf("seed %s: %d races\n%s", seed, len(all), report)
 		}
 	}
 }

@@ -71,6 +71,7 @@ func addPrograms(t *testing.T, b *batch) {
 			}
 			os.Remove(log)
 		}
+		b.add(e.Name()+".1 for version 1", record(t, program, "1", want.status), want.check)
 	}
 }
 

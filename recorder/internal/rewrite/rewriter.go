@@ -2,8 +2,9 @@
 // expressions at their offsets in the text (edits.go), so lines, comments and directives stay where
 // they are; each source text appears once, so nothing is evaluated twice.
 //
-// Package goes through a file by statement (statements.go) and value (expressions.go).
-// testdata/forms.txt has all forms, and forms.golden what they become.
+// Package goes through a file by statement (statements.go) and value (expressions.go). isRecorded
+// (types.go) says, by what facts.go found, which variables get calls. testdata/forms.txt has all
+// forms, and forms.golden what they become.
 package rewrite
 
 import (

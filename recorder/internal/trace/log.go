@@ -1,7 +1,7 @@
 // Package trace makes traces of logs. Open and Records (log.go) read a log, and inOrder (order.go)
-// orders its records. NewSegments and Next (segments.go) begin segments. Of each, write
-// (summary.go) calls named (lend.go), where newSurvey (survey.go) says what is kept, then declare
-// (declarations.go) and print (events.go), which cut it where a limit is reached.
+// orders its records. NewSegments and Next (segments.go) make stretches of them (stretch.go). Of
+// each, write (summary.go) calls named (lend.go), where newSurvey (survey.go) says what is kept,
+// then declare (declarations.go) and print (events.go), which cut it where a limit is reached.
 package trace
 
 import (

@@ -99,7 +99,7 @@ func (o *order) place(r *wire.Record) int {
 // len is how many records there are in the order.
 func (o *order) len() int { return o.steps + int(o.before[len(o.before)-1]) }
 
-// inOrder sets the records of a log to where they were done, where bytes that are told apart
+// inOrder sets the records of a log to where they were done, where bytes that are told apart (apart.go)
 // are variables of their own. The Value of a DeclareVar becomes the offset that its OtherSite
 // is in the log.
 func inOrder(l reading, room func(n int) []wire.Record) []wire.Record {

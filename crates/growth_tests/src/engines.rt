@@ -141,9 +141,9 @@ const SHOWN: Ending = (
     Written::One(b"3 read w x\n2 write main x\nwitness: 2 accesses\n"),
 );
 
-const DRAWN: Ending = (status::CLEAN, Written::Drawing(339));
+const DRAWN: Ending = (status::CLEAN, Written::Drawing(346));
 
-const DRAWN_AS_SVG: Ending = (status::CLEAN, Written::Drawing(1725));
+const DRAWN_AS_SVG: Ending = (status::CLEAN, Written::Drawing(1732));
 
 const PREDICTED: Ending = (
     status::RACES,

@@ -1,4 +1,4 @@
-//! A clock: of each goroutine, how many of its begins are known.
+//! A clock: of each goroutine, how many of its starts are known.
 //!
 //! Up to eight counts stand in the clock itself, and more than that take memory. So a run of few goroutines allocates no
 //! clock.
@@ -144,7 +144,7 @@ impl<A: Allocator + Copy> Clock<A> {
 }
 
 impl<A: Allocator> Clock<A> {
-    /// How many begins of the goroutine are known.
+    /// How many starts of the goroutine are known.
     pub fn knows(&self, goroutine: u32) -> u32
         ensures { result ≡ knows self.now goroutine }
     {

@@ -94,7 +94,7 @@ impl<A: Allocator + Copy> LockClock<A> {
         self.locker = Some(who);
     }
 
-    /// Takes the clock of the begin of an unlock by `who`, which is then free to be written.
+    /// Takes the clock of the start of an unlock by `who`, which is then free to be written.
     #[inline(always)]
     pub(crate) fn unlock(&mut self, who: u32, begin: &mut Clock<A>) -> Result<(), AllocError>
         requires { KnowsUnlocks self.old who begin.old }
@@ -148,7 +148,7 @@ impl<A: Allocator + Copy> Unlocks<A> {
         }
     }
 
-    // Takes the clock of one more unlock's begin, which may be known to know no less than all before it.
+    // Takes the clock of one more unlock's start, which may be known to know no less than all before it.
     #[tactic(auto, using(crate::proofs::JoinLemmas::joined_comm, crate::proofs::JoinLemmas::joined_known))]
     fn add(&mut self, has_seen_all: bool, begin: &mut Clock<A>) -> Result<(), AllocError>
         requires { IsTrue has_seen_all → KnowsAll self.old.all begin.old }

@@ -43,7 +43,7 @@ impl<A: Allocator + Copy> ThreadClock<A> {
         self.parts
     }
 
-    /// Takes part in an access: the clock counts the begins before it, and the access is one part more.
+    /// Takes part in an access: the clock counts the starts before it, and the access is one part more.
     pub(crate) fn access(&mut self, who: u32)
         requires { self.old.parts + 1 < 2 ^ 32 }
         ensures { self.new ≡ record { clock = with_count self.old.clock who self.old.parts; parts = self.old.parts + 1 } }
@@ -52,7 +52,7 @@ impl<A: Allocator + Copy> ThreadClock<A> {
         self.parts += 1;
     }
 
-    /// The clock of the next event's begin.
+    /// The clock of the next event's start.
     #[inline(always)]
     pub(crate) fn begin(&self, who: u32, to: &mut Clock<A>) -> Result<(), AllocError>
         requires { self.now.parts + 1 < 2 ^ 32 }
@@ -81,7 +81,7 @@ impl<A: Allocator + Copy> ThreadClock<A> {
         self.parts += 1;
     }
 
-    /// Takes part in an event that exchanges the clock for this one, and gives that of its begin.
+    /// Takes part in an event that exchanges the clock for this one, and gives that of its start.
     pub(crate) fn exchange(&mut self, who: u32, clock: &mut Clock<A>)
         requires { self.old.parts + 1 < 2 ^ 32 }
         ensures slot { self.new ≡ record { clock = clock.old; parts = self.old.parts + 1 } }
@@ -129,7 +129,7 @@ impl<A: Allocator + Copy> ThreadClock<A> {
         Ok(())
     }
 
-    /// Takes part in an event that joins the clock of its begin to what is kept.
+    /// Takes part in an event that joins the clock of its start to what is kept.
     pub(crate) fn tell(
         &mut self,
         who: u32,

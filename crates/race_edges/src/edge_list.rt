@@ -12,13 +12,13 @@ use race_legal::legal;
 use race_records::Trace;
 use std::alloc::{AllocError, Allocator};
 
-/// One edge: the begin of `from_who` in event `from` is synchronized before the end of `to_who` in
+/// One edge: the start of `from_who` in event `from` is synchronized before the end of `to_who` in
 /// event `to`. Events are indexes, counted from 0.
 #[derive(Clone, Copy, Debug, PartialEq, Eq)]
 pub struct Edge {
     /// The earlier event, or the same one.
     pub from: u32,
-    /// The goroutine whose begin it is.
+    /// The goroutine whose start it is.
     pub from_who: u32,
     /// The later event.
     pub to: u32,

@@ -23,7 +23,7 @@ pub(crate) fn partner(op: &Op) -> Option<u32>
     }
 }
 
-/// Whether inside an event of `who` the begin of `from` is synchronized before the end of `to`.
+/// Whether inside an event of `who` the start of `from` is synchronized before the end of `to`.
 pub(crate) fn joins(who: u32, op: &Op, from: u32, to: u32) -> bool
     ensures { result ≡ joins who op.now from to }
 {

@@ -1,8 +1,8 @@
 //! What each goroutine has seen of the others, event by event.
 //!
-//! By its own events a goroutine sees their begins. By an edge inside an event it sees all that the
+//! By its own events a goroutine sees their starts. By an edge inside an event it sees all that the
 //! other participant has seen, and by an edge from an earlier event, its source, all that had been
-//! seen at the begin of that one; so this is kept for the events that can be a source.
+//! seen at the start of that one; so this is kept for the events that can be a source.
 ghost use Rattle.std.specs.Prelude.{◌≡◌, ◌<◌, ◌+◌, Bool, List, [], false, true, length, replicate, slice_set};
 ghost use Rattle.std.specs.{Prelude.{slice_get, IfSome, IfOk, OnOk}, List.slice_index_or};
 ghost use Rattle.race_edges.specs.{Numbers.AreNumbers, Synchronized.source_at};
@@ -16,7 +16,7 @@ use race_records::{Event, Trace};
 use std::alloc::{AllocError, Allocator};
 use std::marker::Model;
 
-// Events by index: whether the begin of each was seen.
+// Events by index: whether the start of each was seen.
 #[derive(Drop)]
 struct Row<A: Allocator> {
     seen: Vec<bool, A>,
@@ -74,7 +74,7 @@ impl<A: Allocator> Row<A> {
     }
 }
 
-/// What each goroutine has seen, and what had been seen at the begin of each event that can be a
+/// What each goroutine has seen, and what had been seen at the start of each event that can be a
 /// source.
 #[derive(Drop)]
 pub(crate) struct Table<A: Allocator> {
@@ -109,7 +109,7 @@ impl<A: Allocator> Table<A> {
         })
     }
 
-    /// Whether the goroutine has seen the begin of the event at the index.
+    /// Whether the goroutine has seen the start of the event at the index.
     pub(crate) fn sees(&self, goroutine: u32, index: usize) -> bool
         requires { goroutine < length self.now.rows }
         ensures { result ≡ spec.sees self.now.rows goroutine index }
@@ -165,7 +165,7 @@ impl<A: Allocator> Table<A> {
         }
     }
 
-    // Lets a goroutine see what had been seen at the begin of an event.
+    // Lets a goroutine see what had been seen at the start of an event.
     fn take(&mut self, goroutine: u32, from: usize)
         requires row { goroutine < length self.old.rows }
         requires from { from < length self.old.heard }
@@ -201,7 +201,7 @@ impl<A: Allocator> Table<A> {
         }
     }
 
-    // What is kept of an event, whose own begin its goroutine has seen.
+    // What is kept of an event, whose own start its goroutine has seen.
     fn kept(&self, alloc: A, event: &Event) -> Result<Row<A>, AllocError>
     where
         A: Copy,

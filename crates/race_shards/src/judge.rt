@@ -172,8 +172,8 @@ fn end_of(at: usize, block: usize, len: usize) -> usize
 impl<A: Allocator + Copy + Send> Judge<A> {
     /// Takes the next block of events. Where one breaks a rule the verdict is settled, and what follows changes it no more.
     ///
-    /// Each shard's work begins at the gate where there is any. A judge that was refused a thread or memory has failed,
-    /// and takes nothing more.
+    /// Each shard's work begins at the gate, by which tests order the shards; `OpenGate` holds none up. A judge that was
+    /// refused a thread or memory has failed, and takes nothing more.
     pub fn feed<G: Gate, R: Threads + Wait>(
         &mut self,
         rt: &R,

@@ -150,7 +150,7 @@ impl<A: Allocator + Copy> Pair<A> {
         self.first.stamp.who
     }
 
-    /// How many of that goroutine's begins the second's clock counts.
+    /// How many of that goroutine's starts the second's clock counts.
     pub(crate) fn seen_of_first(&self) -> u32
         ensures { result ≡ knows self.now.second.clock self.now.first.stamp.who }
     {

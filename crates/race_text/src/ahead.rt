@@ -122,7 +122,7 @@ fn line_said(said: Said<'_>, number: Option<u32>, start: usize, end: usize) -> O
     })
 }
 
-// The number of a place, where it is guessed.
+// The number of a place that was met, where it is guessed.
 #[inline(always)]
 fn number_met<A: Allocator + Copy>(
     decls: &Decls<A>,

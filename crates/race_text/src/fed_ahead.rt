@@ -160,7 +160,7 @@ fn take_until<A: Allocator + Copy>(
 {
     let mut at = from;
     while at < until {
-        // Not by `take_next`: that would be a second caller of `take_common`.
+        // Not by `take_common`, which is inlined only where it has one caller: that is `take_commons`.
         match take_other(reader, bytes_from(bytes, at))? {
             None => return Ok(at),
             Some(rest) => at = bytes.len() - rest.len(),

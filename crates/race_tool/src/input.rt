@@ -14,14 +14,14 @@ use thiserror::Error;
 /// How many bytes one read may give.
 pub(crate) const BLOCK: usize = 1_048_576;
 
-/// How many it gives where one thread reads.
-pub(crate) const SMALL_BLOCK: usize = 65_536;
-
 /// How many reads one input may take: a reader that never ends is refused then.
 pub(crate) const MAX_TURNS: u64 = 4_294_967_296;
 
 // Definitions cite these numbers, so each is written down twice.
 const _: () = prove!(BLOCK == 1_048_576 && MAX_TURNS == 4_294_967_296);
+
+/// How many bytes one read gives where one thread reads.
+pub(crate) const SMALL_BLOCK: usize = 65_536;
 
 /// Why an input wasn't read.
 #[derive(Clone, Copy, Debug, PartialEq, Eq, Error)]

@@ -1,4 +1,4 @@
-//! What is kept of an access.
+//! Which access an event is, and which of its goroutine's events.
 
 /// An access, with its number among its goroutine's events.
 #[derive(Clone, Copy, Debug, PartialEq, Eq)]

@@ -1,4 +1,4 @@
-//! Stamps: which starts each access has seen.
+//! Stamps of accesses, and beside each the clock of what its goroutine has seen.
 ghost use Rattle.std.specs.Prelude.{◌≡◌, ◌<◌, [], length, IfOk, OnOk, OnErr};
 ghost use Rattle.race_clock.specs.{ClocksState.{clock_of, parts_of}, StamperState.StamperState};
 ghost use Rattle.race_clock.specs.{Stamps.{stamp_of, stamp_with}, StandsFor.{StandsFor, ForEachPast, IsNext, GoesOn}};

@@ -32,7 +32,7 @@ use std::thread::Threads;
 /// with 5 where they can't be printed. Words that are at fault or aren't text end with 3, and a line on standard error
 /// says so. If memory for them is refused, the status is 4.
 ///
-/// Several shards and several workers are threads, for which the call waits. So what is promised holds
+/// A check's threads, several shards and several workers are threads for which the call waits. So what is promised holds
 /// where it returns, and it returns if its reads, writes and threads do.
 pub fn run<T: AllocGlobal + Print + Eprint + Threads + Wait + Sync, R: Read, W: Write>(
     rt: &T,

@@ -26,7 +26,7 @@ pub(crate) struct Fields<R, A: Allocator = Global> {
     pub(crate) trace: Trace<A>,
     pub(crate) limit: u32,
     pub(crate) bad: Option<u32>,
-    // The table of the goroutines: the routines, but for those that are out or left, and the logs.
+    // The table of the goroutines: the routines, but for those whose job is out and those that ended, and the logs.
     pub(crate) routines: Vec<Option<R>, A>,
     pub(crate) logs: Logs<A>,
     pub(crate) ready: Vec<(u32, Answer), A>,

@@ -48,7 +48,7 @@ pub(crate) enum Turn<R, A: Allocator> {
     Run(Job<R, A>),
     /// Come again: an event happened. Whether two goroutines are ready since, of which another worker may take one.
     Fired(bool),
-    /// Wait until a job is back.
+    /// Wait: nothing is to be done before a job is back. Who finds work for two wakes another, and the end wakes all.
     Wait,
     /// Leave: the hub has ended, or all are to leave.
     Leave,

@@ -1,5 +1,5 @@
-//! Lines that are events. Slices and operands go through memory at a call, so the path of the common
-//! words is one function, and what a select or a fault says is read by others.
+//! Lines that are events. Slices and operands go through memory at a call, so operations on one object
+//! are read by one function, and what a select or a fault says is read by others.
 ghost use Rattle.std.specs.{Prelude.{◌≡◌, ◌≤◌, [], ◌∷◌, length, take, true}, List.list_all, Option.option_map};
 ghost use Rattle.std.specs.Result.{result_ok};
 ghost use Rattle.race_records.specs.{Name.is_place_byte, Declarations.IsWellFormed, Operands.op_by};

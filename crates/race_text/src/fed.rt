@@ -141,7 +141,7 @@ impl<G: Grammar, A: Allocator + Copy> Lines<G, A> {
         self.part.is_empty()
     }
 
-    // The same where no part of a line is left before. The lines are read where they lie.
+    // As `take`, where no part of a line is left before. The lines are read where they lie.
     fn take_whole(&mut self, bytes: &[u8]) -> Result<(), TextFault>
         requires some { (k : G.Known) × StandsForSome (G.stands_for k self.old.reader) }
         requires none { self.old.part.items ≡ [] }

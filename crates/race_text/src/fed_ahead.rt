@@ -53,8 +53,8 @@ impl<A: Allocator + Copy> Fed<EventStream<A>, A> {
 
 impl<A: Allocator + Copy> Lines<EventStream<A>, A> {
     // Takes lines of the piece up to the last one that was read ahead, and tells where the next one begins. The rest isn't
-    // taken here: each caller of `take_whole` in this impl would make a second instance of it and of `take_common`,
-    // which is inlined only where it has one caller.
+    // taken here: each caller of `take_whole` in this impl would make a second instance of it and of `take_common`, which
+    // is so large that it is inlined only where it has one caller.
     fn take_ahead(&mut self, piece: &[u8], ahead: &[Vec<LineAhead, A>]) -> Result<usize, TextFault>
         requires { (k : Known) × spec.IsBetween (StandsFor k self.old.reader) self.old.part.items × AreKnownAhead k piece.now ahead.now }
         ensures taken { MatchResult result
@@ -160,7 +160,7 @@ fn take_until<A: Allocator + Copy>(
 {
     let mut at = from;
     while at < until {
-        // Not by `take_common`, which is inlined only where it has one caller: that is `take_commons`.
+        // Not by `take_common`, whose one caller is `take_commons`.
         match take_other(reader, bytes_from(bytes, at))? {
             None => return Ok(at),
             Some(rest) => at = bytes.len() - rest.len(),

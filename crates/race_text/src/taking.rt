@@ -1,4 +1,4 @@
-//! Lines behind the first event.
+//! Lines behind the declarations.
 ghost use Rattle.std.specs.Prelude.{◌≡◌, ◌+◌, ◌*◌, ◌<◌, ◌≤◌, ◌++◌, List, [], ◌∷◌, drop, true, false, length, None, IsTrue};
 ghost use Rattle.std.specs.{Prelude.{IfSome, IfOk, IfErr, MatchResult, OnOk}, Option.option_map};
 ghost use Rattle.race_records.specs.{declared.event.Event.Event, Name.is_place};
@@ -73,9 +73,9 @@ pub(crate) fn take_common<'a, A: Allocator + Copy>(
     take_common_behind::<Trace<A>, A>(trace, 0, guesses, bytes)
 }
 
-// The same of a trace of which so many events were handed on. `G` is the grammar that asks: it is used for nothing
-// but that each grammar has a copy of its own, which has one caller and is inlined there. It is too large to be
-// inlined at each of three.
+// The same of a trace of which so many events were handed on. `G` is who asks, as `R` of `read_common`: it is used for
+// nothing but that each caller has a copy of its own. A function of this size is inlined only where it has one caller,
+// whatever its attribute says.
 #[inline(always)]
 pub(crate) fn take_common_behind<'a, G, A: Allocator + Copy>(
     trace: &mut Trace<A>,

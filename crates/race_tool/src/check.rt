@@ -38,7 +38,7 @@ pub struct CheckOptions {
 }
 
 impl Default for CheckOptions {
-    /// One shard, the longest blocks, and not the plain judge.
+    /// One thread, the longest blocks, and not the plain judge.
     fn default() -> CheckOptions
         ensures shards { result.shards ≡ 1 }
         ensures block { result.block ≡ MAX_BLOCK }
@@ -74,7 +74,7 @@ impl CheckOptions {
 
 /// Judges a trace: reads its text in blocks, and writes the report. It stops reading behind the block
 /// that ends the first faulty line, since nothing that follows changes the report then. Events are
-/// judged behind the block in which they stand, and forgotten; the plain judge wants them all.
+/// judged behind the bytes in which they stand, and forgotten; the plain judge wants them all.
 ///
 /// The answer is a status. 0 clean, 66 races, 1 illegal and 2 text fault are told by the report; 3
 /// says that an option is out of its limits, or that there are more events than the plain judge

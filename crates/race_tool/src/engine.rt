@@ -52,7 +52,7 @@ pub(crate) trait Engine {
 
 /// Reads an input by `read`, finds by `find` what there is to reply to it, writes that and answers its status.
 ///
-/// Both are closures, since a method of an impl can't start threads.
+/// Both are closures, since a method of the trait can't start threads.
 pub(crate) fn answer<E: Engine, I, F, R: Read, W: Write>(
     engine: &E,
     read: I,

@@ -16,7 +16,7 @@ use std::alloc::{AllocError, Allocator};
 use std::sync::Wait;
 use std::thread::Threads;
 
-/// How many threads read and judge, and how many events are judged at a time where there are several.
+/// How many threads read and judge, and how many events several of them read before these are judged.
 #[derive(Clone, Copy)]
 pub(crate) struct Judging {
     /// How many threads there are.

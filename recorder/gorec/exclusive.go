@@ -22,6 +22,8 @@ type access struct {
 	stack uint32
 }
 
+func (o user) access() access { return access{at: o.g.behind + 1, site: o.s.ID, stack: o.stack} }
+
 // is reports whether the two are alike. Go's == calls a function for three numbers.
 func (a access) is(b access) bool { return a.at == b.at && a.site == b.site && a.stack == b.stack }
 

@@ -6,11 +6,12 @@
 // Every operation that takes effect at once is done, and its record written, while a lock is held:
 // one that may order goroutines, a step, holds mu, and a read or a write the locks of its memory
 // (shards.go). So the records of steps stand in an order in which these did happen one after
-// another, and each access says after how many of them it comes. What can wait never waits
-// with a lock held. Accesses that repeat others and have no record are done without one
+// another, and each access says after how many records written with mu it comes. What can wait
+// never waits with a lock held. Accesses that repeat others and have no record are done without one
 // (repeats.go), as are most of a loop over bytes (loops.go) and most reads of what several
 // goroutines use (shadow.go).
 //
+// alone and current (goroutines.go) tell who runs.
 // Read (variables.go) comes by user.read (locations.go) to accessed (exclusive.go), which keeps
 // the access or writes its record. What may order, such as Send (channels.go) by sent
 // (communicate.go), takes mu by begin (parts.go), and step or write (log.go) writes it. init has
@@ -29,7 +30,7 @@ import (
 	"gorace.local/recorder/wire"
 )
 
-// Site is a place in the source, and the name of what is used there.
+// Site is a place in the source, by its number in the table of sites.
 type Site struct {
 	ID      uint32
 	generic bool
@@ -122,7 +123,7 @@ var forPredictions bool
 // write has the lock. The record stands where it is written.
 func write(r wire.Record) {
 	atomic.StoreUint32(&steps, steps+1)
-	stepped.put(r)
+	stepWindow.put(r)
 }
 
 // step has the lock. It writes an operation of g that may order what g did, so that an access

@@ -39,8 +39,6 @@ type claim struct {
 	kept  int // which access of the span it is
 }
 
-func (o user) access() access { return access{at: o.g.behind + 1, site: o.s.ID, stack: o.stack} }
-
 // loopOf is the loop of a place, and whether it has come to p.
 func (o user) loopOf(op wire.Op, p unsafe.Pointer) (l *byteLoop, isThere bool) {
 	l = &o.g.loops[(o.s.ID<<1+uint32(op)&1)%loopsKept]

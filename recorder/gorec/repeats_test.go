@@ -18,7 +18,7 @@ func record(t *testing.T) (log func() string) {
 	if shadow == nil {
 		openShadow()
 	}
-	stepped, mainGoroutine.window = window{}, window{}
+	stepWindow, mainGoroutine.window = window{}, window{}
 	off, sealed, live = false, false, true
 	largest, most := largestWindow, mostOfRun
 	largestWindow, mostOfRun, ranOn = 1, 0, 0 // so that records stand in the order in which they were written

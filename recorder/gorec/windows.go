@@ -35,13 +35,15 @@ var (
 	records []wire.Record
 	steps   uint32 // records that aren't placed by their Value; changed with mu alone
 	objects uint32 // numbers that were given; changed by additions
-	stepped window // that of who holds mu
+
+	// stepWindow is that of who holds mu.
+	stepWindow window
 
 	// full: a log is so full that another one has to follow. It is read without a lock.
 	full uint32
 )
 
-// openLog has the lock, and nobody writes to the log before.
+// openLog has the lock, or runs in init: nobody writes to the log before.
 func openLog(path string) error {
 	f, err := os.OpenFile(path, os.O_RDWR|os.O_CREATE|os.O_TRUNC, 0o644)
 	if err != nil {
@@ -100,7 +102,7 @@ func (w *window) refill() bool {
 		w.size /= 2
 	}
 	limit := len(records) - 1
-	if w != &stepped && partRecords == 0 {
+	if w != &stepWindow && partRecords == 0 {
 		limit -= reserve()
 	}
 	end := atomic.AddUint32(&header.Records, w.size)

@@ -46,7 +46,8 @@ func (b *building) buildFlags() []string {
 	return []string{"-tags=" + b.tags}
 }
 
-// instrument writes copies of the packages that are named, with the recorder's calls, to dir.
+// instrument writes copies of the packages that are named, and of what they import beside the library,
+// with the recorder's calls, to dir.
 func (b *building) instrument(k *process.Keeper, args []string, dir string, tests bool) (*instrument.Copy, error) {
 	set, err := load.Packages(load.Query{Args: args, Flags: b.listFlags(), Tests: tests, Run: k.Run})
 	if err != nil {

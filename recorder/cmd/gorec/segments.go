@@ -26,8 +26,8 @@ const (
 	mostRecords   = 1<<24 + 1<<22
 )
 
-// A judging has the parts of a run's log judged, while the program runs, each in one segment
-// or several.
+// A judging has the parts of a run judged, while the program runs, each in one segment or
+// several.
 type judging struct {
 	*session
 	t      *target
@@ -140,9 +140,9 @@ var partEnds = map[wire.Successor]string{
 }
 
 // judgeSegment has a segment judged. Where it is the only one of the run its report is printed as it
-// comes; else that of a clean one is a note.
+// is; else that of a clean one is a note.
 func (j *judging) judgeSegment(s *trace.Segments, command []string, options trace.Options, successor wire.Successor) error {
-	goesOn := successor != wire.NoSuccessor
+	follows := successor != wire.NoSuccessor // another log
 	file, path, done, err := j.traceOf()
 	if err != nil {
 		return err
@@ -152,11 +152,11 @@ func (j *judging) judgeSegment(s *trace.Segments, command []string, options trac
 	if o.summary, err = s.Write(j.t.copied.Sites, options, file); err != nil {
 		return err
 	}
-	if !s.More() && goesOn {
+	if !s.More() && follows {
 		o.summary.Cut = partEnds[successor]
 	}
 	j.segments++
-	only := j.segments == 1 && !goesOn && !s.More()
+	only := j.segments == 1 && !follows && !s.More()
 	if only {
 		fmt.Fprintln(j.c.notes, "gorec: "+o.summary.Counts())
 		err = j.judge.ask(j.keeper, command, path, j.c.out, j.c.notes, o)
@@ -188,7 +188,7 @@ func (j *judging) judgeSegment(s *trace.Segments, command []string, options trac
 	if only {
 		tell(j.c.out, o.summary, j.t.Missed)
 	}
-	j.add(o, s.GoesOn() || !s.More() && goesOn)
+	j.add(o, s.GoesOn() || !s.More() && follows)
 	return nil
 }
 

@@ -147,10 +147,10 @@ func isMade(l *Listed, all map[string]*Listed) bool {
 	return of != nil && of != l && l.Name == "main"
 }
 
-// recorded leaves out the library, what doesn't compile, and all but one of the variants of a
+// copied leaves out the library, what doesn't compile, and all but one of the variants of a
 // package: that with its own tests, where it is there. Their paths don't say for which test they
 // are.
-func recorded(all []*Listed) []*Listed {
+func copied(all []*Listed) []*Listed {
 	made := map[string]*Listed{}
 	for _, l := range all {
 		made[l.ImportPath] = l

@@ -29,7 +29,7 @@ func listed() []*Listed {
 // don't compile aside; and no path says for which test.
 func TestRecorded(t *testing.T) {
 	var got []string
-	for _, l := range recorded(listed()) {
+	for _, l := range copied(listed()) {
 		got = append(got, l.ImportPath+"="+l.Export)
 	}
 	if want := "x/a=2 x/a_test=3 x/b=7 x/d=9 y=10"; strings.Join(got, " ") != want {

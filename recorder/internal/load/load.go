@@ -16,7 +16,7 @@ import (
 	"strings"
 )
 
-// Package is one that gets calls of the recorder.
+// Package is one that is copied, with calls of the recorder unless it has cgo.
 type Package struct {
 	*Listed
 	Fset    *token.FileSet
@@ -84,7 +84,7 @@ func Packages(q Query) (*Set, error) {
 	for _, l := range listed {
 		exports[l.ImportPath] = l.Export
 	}
-	for _, l := range recorded(listed) {
+	for _, l := range copied(listed) {
 		p := &Package{Listed: l, Fset: token.NewFileSet(), Toolchain: s.Toolchain}
 		s.Packages = append(s.Packages, p)
 		if !p.Recorded() {

@@ -1,7 +1,9 @@
 // Package trace makes traces of logs. Open and Records (log.go) read a log, and inOrder (order.go)
-// orders its records. NewSegments and Next (segments.go) make stretches of them (stretch.go). Of
+// orders its records, which renumber (numbering.go) numbers anew. NewSegments and Next
+// (segments.go; behind a cut by goOn, carrier.go) make stretches of them (stretch.go). Of
 // each, write (summary.go) calls named (lend.go), where newSurvey (survey.go) says what is kept,
 // then declare (declarations.go) and print (events.go), which cut it where a limit is reached.
+// Moments (moments.go) tells more of events that race.
 package trace
 
 import (

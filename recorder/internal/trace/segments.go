@@ -102,13 +102,13 @@ func (s *Segments) Moments(table sites.Table, o Options, wanted map[int]bool) (m
 	return momentsOf(s.stretch, table, s.options(o), wanted)
 }
 
-// More reports whether there is a next segment.
+// More reports whether there is a next trace: of other variables, or behind a cut.
 func (s *Segments) More() bool { return s.GoesOn() || s.group+1 < s.groups.count() }
 
 // GoesOn reports whether there is another one of the same variables, behind a cut of this one.
 func (s *Segments) GoesOn() bool { return s.end < s.stretch.len() && s.end > len(s.stretch.state) }
 
-// Next goes on with the next segment, if there is one. Where there is none, and the trace that
+// Next goes on with the next trace, if there is one. Where there is none, and the trace that
 // was written has a cut, what is behind that has no trace: the state alone is too much for one.
 func (s *Segments) Next() bool {
 	switch {

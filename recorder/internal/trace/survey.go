@@ -24,7 +24,7 @@ type object struct {
 	name string
 }
 
-// survey is what is known of a log before it is written.
+// survey is what is known of a stretch before its trace is written.
 type survey struct {
 	*stretch
 	to int // so many of its records are looked at

@@ -1,4 +1,4 @@
-//! The least cause of a line at fault. It may be slow: a line that fits never comes here.
+//! The least cause of a line at fault. It may be slow: no event that fits comes here, and few declarations that do.
 ghost use Rattle.std.specs.Prelude.{◌≡◌, ◌==◌, length};
 ghost use Rattle.race_text.specs.Words.{parts_left};
 ghost use Rattle.race_text.specs.Fault as spec;

@@ -25,7 +25,7 @@ pub struct ExploreOptions {
     pub runs: u64,
     /// How many events a run may have, 1 to 16,777,216.
     pub limit: u32,
-    /// Whether all runs are judged, or of those that differ only in the order of independent steps one at least.
+    /// Whether all runs are judged, or of those that differ only in the order of independent events one at least.
     pub orders: Orders,
 }
 

@@ -48,7 +48,7 @@ impl Judging {
 
 /// What was handed on of a trace that is read on meanwhile.
 ///
-/// The judge is made at the first event, after which nothing is declared.
+/// The judge is made when events are first handed on, or at the end: behind an event nothing is declared.
 #[derive(Drop)]
 pub(crate) struct Handed<A: Allocator> {
     /// Who judges.

@@ -112,7 +112,7 @@ fn feed_many<T: Threads + Sync, A: Allocator + Copy + Send + Sync>(
     feed_side_by_side(rt, rest, reader, ahead)
 }
 
-// The same by all threads. If a line is open before the bytes, `feed_ahead` uses nothing that was read ahead.
+// The same, where threads read ahead. If a line is open before the bytes, `feed_ahead` uses nothing that was read ahead.
 fn feed_side_by_side<T: Threads + Sync, A: Allocator + Copy + Send + Sync>(
     rt: &T,
     bytes: &[u8],

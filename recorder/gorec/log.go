@@ -6,15 +6,16 @@
 // Every operation that takes effect at once is done, and its record written, while a lock is held:
 // one that may order goroutines, a step, holds mu, and a read or a write the locks of its memory
 // (shards.go). So the records of steps stand in an order in which these did happen one after
-// another, and each access says after how many records written with mu it comes. What can wait
-// never waits with a lock held. Accesses that repeat others and have no record are done without one
+// another, and each access says after how many of the records written with mu (steps) it comes. What
+// can wait never waits with a lock held. Accesses that repeat others and have no record are done without one
 // (repeats.go), as are most of a loop over bytes (loops.go) and most reads of what several
 // goroutines use (shadow.go).
 //
 // alone and current (goroutines.go) tell who runs.
 // Read (variables.go) comes by user.read (locations.go) to accessed (exclusive.go), which keeps
 // the access or writes its record. What may order, such as Send (channels.go) by sent
-// (communicate.go), takes mu by begin (parts.go), and step or write (log.go) writes it. init has
+// (communicate.go; what waits: selects.go, waiters.go), takes mu by begin (parts.go), and step or
+// write (log.go) writes it. init has
 // openLog (windows.go) map the log, where take finds room; wire/record.go has a record's form.
 package gorec
 

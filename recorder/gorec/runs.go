@@ -45,7 +45,7 @@ func (o user) goesOn(op wire.Op, object uint32, bytes uint8) bool {
 	}
 	r.Other++
 	run.next++
-	o.g.window.ranOn++
+	o.g.window.uncounted++
 	return true
 }
 
@@ -58,11 +58,11 @@ const unsaid = 1 << 8
 
 // countRuns counts them.
 func (w *window) countRuns() {
-	if w.ranOn < unsaid {
+	if w.uncounted < unsaid {
 		return
 	}
-	count := atomic.AddUint32(&ranOn, w.ranOn) + atomic.LoadUint32(&header.Records)
-	w.ranOn = 0
+	count := atomic.AddUint32(&ranOn, w.uncounted) + atomic.LoadUint32(&header.Records)
+	w.uncounted = 0
 	switch {
 	case isFull(count):
 		atomic.StoreUint32(&full, 1)

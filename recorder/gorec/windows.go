@@ -26,7 +26,7 @@ type window struct {
 	next, end uint32
 	size      uint32
 	part      uint32 // of which it is
-	ranOn     uint32 // accesses of runs that ranOn hasn't
+	uncounted uint32 // accesses in runs (runs.go) that ranOn hasn't yet
 }
 
 var (
@@ -132,8 +132,8 @@ func giveBack(from, to uint32) {
 // reserve is how many records of a run's only log are kept for the steps of one operation.
 func reserve() int { return len(records)/64 + 64 }
 
-// isFull reports whether the part that has so many records, with those of runs, has to end. The rest is for the
-// operations that have begun.
+// isFull reports whether the part that has so many records, with the accesses in runs, has to end.
+// The rest is for the operations that have begun.
 func isFull(count uint32) bool {
 	return partRecords > 0 && int(count) > len(records)-len(records)/8
 }

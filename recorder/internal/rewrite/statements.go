@@ -101,8 +101,8 @@ func (r *rewriter) variables(g *ast.GenDecl) {
 	}
 }
 
-// returnStatement writes the named results that more than one goroutine may come to, and
-// reads them.
+// returnStatement writes a lone named result that more than one goroutine may come to, and
+// reads it.
 func (r *rewriter) returnStatement(s *ast.ReturnStmt) {
 	r.values(s.Results)
 	results := r.facts.results[r.within]

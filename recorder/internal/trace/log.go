@@ -3,7 +3,7 @@
 // (segments.go; behind a cut by goOn, carrier.go) make stretches of them (stretch.go). Of
 // each, write (summary.go) calls named (lend.go), where newSurvey (survey.go) says what is kept,
 // then declare (declarations.go) and print (events.go), which cut it where a limit is reached.
-// Moments (moments.go) tells more of events that race.
+// momentsOf (moments.go) tells more of events that race.
 package trace
 
 import (

@@ -2,8 +2,8 @@ package trace
 
 import "gorace.local/recorder/wire"
 
-// renumber gives the objects and the goroutines of a log that isn't a run's first numbers from
-// 1, as few as there are, since what is known of them stands in lists.
+// renumber gives the objects and the goroutines of a log that has few of the numbers, as a later
+// one of a run, numbers from 1, since what is known of them stands in lists.
 func renumber(records []wire.Record) {
 	if !isSparse(records) {
 		return

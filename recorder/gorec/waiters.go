@@ -168,7 +168,7 @@ func (w *waiter) pollNow() (lent bool) {
 
 // poll tries the cases until one was done; did says that this goroutine did it.
 func (w *waiter) poll() (i int, did bool) {
-	pause := 5 * time.Microsecond
+	pause := firstPause
 	t := time.NewTimer(pause)
 	defer t.Stop()
 	for {
@@ -188,11 +188,27 @@ func (w *waiter) poll() (i int, did bool) {
 			<-w.g.wake
 			return none, false
 		}
-		if pause += pause / 4; pause > time.Millisecond {
-			pause = time.Millisecond
-		}
+		pause = nextPause(pause)
 		t.Reset(pause)
 	}
+}
+
+const firstPause = 5 * time.Microsecond
+
+// nextPause is the pause of a poll behind another one. Pauses grow, as who has waited long may wait a
+// bit longer: by a quarter up to a millisecond, then by a sixteenth, which is about how late a timer
+// is then found.
+func nextPause(p time.Duration) time.Duration {
+	const longest = 10 * time.Millisecond
+	if p < time.Millisecond {
+		p += p / 4
+	} else {
+		p += p / 16
+	}
+	if p > longest {
+		p = longest
+	}
+	return p
 }
 
 // again tries the cases once more; done says that another goroutine did one meanwhile.

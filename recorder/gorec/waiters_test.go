@@ -62,3 +62,18 @@ func TestContextEnds(t *testing.T) {
 		}
 	})
 }
+
+// Who polls for an hour tries about a hundred times a second. No pause is long beside the wait so far.
+func TestPauses(t *testing.T) {
+	tries, waited := 0, time.Duration(0)
+	for p := firstPause; waited < time.Hour; p = nextPause(p) {
+		if p > 10*time.Millisecond || p > time.Millisecond && p > waited/3 {
+			t.Fatalf("a pause of %v after %v", p, waited)
+		}
+		waited += p
+		tries++
+	}
+	if tries > 3600*101 {
+		t.Errorf("%d tries in an hour", tries)
+	}
+}

@@ -214,8 +214,18 @@ func (g *G) start(s *Site) *G {
 func (g *G) run(s *Site, f func()) {
 	g.g = getg()
 	setLabel(unsafe.Pointer(&g.tag))
+	growStack(0)
 	defer g.exit(s)
 	f()
+}
+
+// growStack has the stack of a new goroutine, which has 2 KB, grow while little is on it. The
+// recorder's calls need more, and to copy a stack takes the longer the more calls are on it.
+//
+//go:noinline
+func growStack(i int) byte {
+	var room [2 << 10]byte
+	return room[i]
 }
 
 func (g *G) exit(s *Site) {

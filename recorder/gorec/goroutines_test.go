@@ -2,8 +2,10 @@ package gorec
 
 import (
 	"runtime"
+	"runtime/debug"
 	"strings"
 	"testing"
+	"unsafe"
 )
 
 // A goroutine that was started, and hasn't run, looks in a dump as one of the program's does:
@@ -24,4 +26,26 @@ func TestDumpOfAStart(t *testing.T) {
 	if !strings.Contains(string(text), "created by gorace.local/recorder/gorec.Go") {
 		t.Errorf("the goroutine isn't there:\n%s", text)
 	}
+}
+
+// A stack that has grown isn't copied when calls need 1.5 KB.
+func TestGrownStack(t *testing.T) {
+	defer debug.SetGCPercent(debug.SetGCPercent(-1)) // which lets stacks shrink
+	moved := make(chan bool)
+	go func() {
+		growStack(0)
+		var here byte
+		was := uintptr(unsafe.Pointer(&here))
+		needMore(0)
+		moved <- uintptr(unsafe.Pointer(&here)) != was
+	}()
+	if <-moved {
+		t.Error("it grew again")
+	}
+}
+
+//go:noinline
+func needMore(i int) byte {
+	var room [3 << 9]byte
+	return room[i]
 }

@@ -21,8 +21,11 @@ func (o user) touch(p unsafe.Pointer, kind wire.VarKind, change bool) {
 	sh := shardOf(p)
 	l := &sh.entries[sh.locate(p, kind)]
 	l.age = sh.age
-	if change && l.repeats(o, whole) {
-		return
+	if change {
+		l.known = 0 // what a map held, to who fills it
+		if l.repeats(o, whole) {
+			return
+		}
 	}
 	l.isOthers(o, kind, 0)
 	l.accessed(o, op, whole)

@@ -83,6 +83,7 @@ type walk struct {
 	settle  bool // nothing is recorded, but it is known what each location holds
 	fill    bool // what changed since, unrecorded, was written by the function
 	left    int  // so many values more
+	behind  int  // and so many elements more behind the ends of slices
 	visited map[unsafe.Pointer]bool
 }
 
@@ -137,9 +138,12 @@ func fillBy(v any, s *Site, f func() error) error {
 	return err
 }
 
+// mostWalked is how many values are walked at most.
+const mostWalked = 10000
+
 func walkAll(w *walk, v any, s *Site) {
 	w.user = current(s).at(s)
-	w.left = 10000
+	w.left, w.behind = mostWalked, mostWalked/10
 	w.visited = map[unsafe.Pointer]bool{}
 	w.value(reflect.ValueOf(v), 0)
 }
@@ -157,6 +161,9 @@ func (w *walk) value(v reflect.Value, depth int) {
 		for i := 0; i < v.Len() && w.left > 0; i++ {
 			w.access(v.Index(i))
 			w.value(v.Index(i), depth+1)
+		}
+		if w.settle {
+			w.behindEnd(v)
 		}
 	case reflect.Array:
 		for i := 0; i < v.Len() && w.left > 0; i++ {
@@ -201,8 +208,10 @@ func (w *walk) pointer(v reflect.Value, depth int) {
 }
 
 func (w *walk) mapping(v reflect.Value, depth int) {
-	if !w.settle {
-		w.g.use(v.UnsafePointer(), wire.VarMap, w.fill, w.s)
+	if w.settle || w.fill {
+		w.compareMap(v)
+	} else {
+		w.g.use(v.UnsafePointer(), wire.VarMap, false, w.s)
 	}
 	for _, x := range w.inMap(v) {
 		w.value(x, depth+1)
@@ -230,26 +239,5 @@ func (w *walk) access(v reflect.Value) {
 	defer w.g.hold(p, v.Type().Size()).release()
 	for _, f := range layoutOf(v.Type()).leaves {
 		w.compare(unsafe.Add(p, f.offset), f)
-	}
-}
-
-// compare has the lock. Before a function that fills it settles what a location holds; what
-// changed behind it was written, unless the function has led to it and others may have.
-func (w *walk) compare(p unsafe.Pointer, f leaf) {
-	sh := shardOf(p)
-	i, bytes := sh.locationOf(p, f.size)
-	l, bits := &sh.entries[i], bitsOf(p, f.size)
-	if bytes != whole {
-		bits <<= 8 * (uintptr(p) & 7)
-	}
-	settled := l.known&bytes == bytes
-	switch {
-	case w.settle:
-		if l.isMet() && !settled {
-			sh.endLeave(i, w.g)
-			l.hold(bits, bytes)
-		}
-	case l.isMet() && settled && (bits^l.bits)&spread(bytes) != 0 || !l.isMet() && bits != 0:
-		w.wrote(p, f.size, f.offset)
 	}
 }

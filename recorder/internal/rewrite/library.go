@@ -196,7 +196,7 @@ func (r *rewriter) looksInto(e *ast.CallExpr, f *types.Func, i int) (call string
 	spread := e.Ellipsis.IsValid() && i == len(e.Args)-1
 	switch {
 	case r.isConstant(a) || !leads(t):
-	case streamFunctions[full] && i < 2 && !(showFunctions[full] && i > 0) && !isSlice(t) && !spread:
+	case streamFunctions[full] && takesStream(full, i) && !isSlice(t) && !spread:
 		if mayStream(t) || isEnd(t) {
 			call = streamCall(readsStream(full, i))
 		}
@@ -222,6 +222,12 @@ func streamCall(in bool) string {
 		return "StreamIn"
 	}
 	return "StreamOut"
+}
+
+// takesStream reports whether argument i of one of the streamFunctions may be a Reader or a Writer.
+// What a template is handed second is data.
+func takesStream(full string, i int) bool {
+	return i == 0 || i == 1 && !showFunctions[full] && !strings.HasSuffix(full, ".Execute")
 }
 
 // readsStream reports whether one of the streamFunctions reads what its argument i is.

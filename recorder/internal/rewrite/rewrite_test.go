@@ -21,10 +21,10 @@ var update = flag.Bool("update", false, "write what the rewriting gives to testd
 const prelude = `package forms
 
 import ("bytes"; "context"; "encoding/json"; "encoding/xml"; "fmt"; "io"; "math/rand"; "net/http"; "os"; "os/signal"; "reflect"
-	"runtime/pprof"; "sort"; "strings"; "sync"; "sync/atomic"; "time")
+	"runtime/pprof"; "sort"; "strings"; "sync"; "sync/atomic"; "text/template"; "time")
 
 var _ = []any{json.Marshal, xml.Marshal, fmt.Println, reflect.ValueOf, pprof.Do, sort.Ints, strings.Join, atomic.AddInt64, time.After,
-	context.Background, signal.Notify}
+	context.Background, signal.Notify, template.New}
 
 type pair struct{ c, d int }
 type thing struct { a int; b pair }

@@ -30,8 +30,9 @@ type channel struct {
 
 var channels = map[unsafe.Pointer]*channel{}
 
-// pointerTo is the pointer that a channel is.
-func pointerTo[C any](c *C) unsafe.Pointer { return *(*unsafe.Pointer)(unsafe.Pointer(c)) }
+// pointerTo is the pointer that the channel at c is. It has no type parameter: where T is error,
+// Go 1.19 can't export a short method that calls something of chan T.
+func pointerTo(c unsafe.Pointer) unsafe.Pointer { return *(*unsafe.Pointer)(c) }
 
 // channelAt has the lock; it is nil for a nil channel.
 func channelAt(p unsafe.Pointer, g *G, s *Site) *channel {
@@ -59,7 +60,7 @@ func Made[C any](c C, s *Site) C {
 		return c
 	}
 	begin()
-	p := pointerTo(&c)
+	p := pointerTo(unsafe.Pointer(&c))
 	capacity := reflect.ValueOf(c).Cap()
 	channels[p] = &channel{p: p, capacity: capacity, id: declare(wire.DeclareChan, 0, uint64(capacity), s), part: part, site: s.ID}
 	mu.Unlock()
@@ -73,7 +74,7 @@ func Lent[C any](c C, s *Site) C {
 	}
 	g := current(s)
 	begin()
-	if ch := channelAt(pointerTo(&c), g, s); ch != nil && ch.done == nil && !ch.foreign {
+	if ch := channelAt(pointerTo(unsafe.Pointer(&c)), g, s); ch != nil && ch.done == nil && !ch.foreign {
 		ch.lend()
 		g.lose(wire.LostChannel, s)
 	}
@@ -95,7 +96,7 @@ func (x Sender[T]) Send(v T, s *Site) {
 	}
 	g := current(s)
 	begin()
-	ch := channelAt(pointerTo(&x.c), g, s)
+	ch := channelAt(pointerTo(unsafe.Pointer(&x.c)), g, s)
 	switch {
 	case !ch.isPlain() || ch.closed:
 		mu.Unlock()
@@ -149,7 +150,7 @@ func ReceiveOK[T any](c <-chan T, s *Site) (v T, ok bool) {
 	}
 	g := current(s)
 	begin()
-	ch := channelAt(pointerTo(&c), g, s)
+	ch := channelAt(pointerTo(unsafe.Pointer(&c)), g, s)
 	if ch.isPlain() {
 		if v, ok = receiveNow(ch, c, g, s); ok {
 			mu.Unlock()
@@ -198,7 +199,7 @@ func Close[T any](c chan<- T, s *Site) {
 	}
 	g := current(s)
 	begin()
-	ch := channelAt(pointerTo(&c), g, s)
+	ch := channelAt(pointerTo(unsafe.Pointer(&c)), g, s)
 	switch {
 	case ch == nil:
 		g.note(wire.FaultClose, 0, s)

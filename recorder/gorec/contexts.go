@@ -4,6 +4,7 @@ import (
 	"context"
 	"reflect"
 	"time"
+	"unsafe"
 
 	"gorace.local/recorder/wire"
 )
@@ -38,7 +39,7 @@ func ownParentOf(parent context.Context, s *Site) *ownParent {
 	done := parent.Done()
 	begin()
 	defer mu.Unlock()
-	if ch := channels[pointerTo(&done)]; done != nil && ch.isPlain() {
+	if ch := channels[pointerTo(unsafe.Pointer(&done))]; done != nil && ch.isPlain() {
 		return &ownParent{Context: parent, channel: ch, s: s}
 	}
 	return nil
@@ -94,7 +95,7 @@ func newDone(parent, ctx context.Context, own *ownParent, deadline bool, s *Site
 	if done == nil {
 		return nil
 	}
-	ch := &channel{p: pointerTo(&done), id: declare(wire.DeclareChan, 0, 0, s), part: part, site: s.ID}
+	ch := &channel{p: pointerTo(unsafe.Pointer(&done)), id: declare(wire.DeclareChan, 0, 0, s), part: part, site: s.ID}
 	d := &doneChannel{channel: ch}
 	ch.done = d
 	channels[ch.p] = ch
@@ -104,7 +105,7 @@ func newDone(parent, ctx context.Context, own *ownParent, deadline bool, s *Site
 		d.timer.site, d.timer.stack = s.ID, stackNumber()
 		g.step(wire.Record{Op: wire.Go, Other: d.timer.id, Site: s.ID, OtherSite: d.timer.stack})
 	}
-	if up := channels[pointerTo(&above)]; up != nil && up.done != nil {
+	if up := channels[pointerTo(unsafe.Pointer(&above))]; up != nil && up.done != nil {
 		up.done.children = append(up.done.children, d)
 		if up.closed { // canceled at birth
 			d.close(g, s)
@@ -214,7 +215,7 @@ func (x ContextAt) Err() error {
 	g := current(x.s)
 	begin()
 	defer mu.Unlock()
-	if ch := channels[pointerTo(&done)]; ch != nil && ch.done != nil {
+	if ch := channels[pointerTo(unsafe.Pointer(&done))]; ch != nil && ch.done != nil {
 		ch.enter()
 		ch.done.ended()
 		g.note(wire.ReceiveClosed, ch.id, x.s)

@@ -53,7 +53,7 @@ func (r *Taking[T]) forget() (v T, ok bool) {
 }
 
 func (r *Taking[T]) state() *operation       { return &r.operation }
-func (r *Taking[T]) pointer() unsafe.Pointer { return pointerTo(&r.c) }
+func (r *Taking[T]) pointer() unsafe.Pointer { return pointerTo(unsafe.Pointer(&r.c)) }
 func (r *Taking[T]) wait()                   { r.Value, r.OK = <-r.c }
 func (r *Taking[T]) value() unsafe.Pointer   { return nil }
 
@@ -116,7 +116,7 @@ func (r *Giving[T]) forget() {
 }
 
 func (r *Giving[T]) state() *operation         { return &r.operation }
-func (r *Giving[T]) pointer() unsafe.Pointer   { return pointerTo(&r.c) }
+func (r *Giving[T]) pointer() unsafe.Pointer   { return pointerTo(unsafe.Pointer(&r.c)) }
 func (r *Giving[T]) wait()                     { r.c <- r.v }
 func (r *Giving[T]) value() unsafe.Pointer     { return unsafe.Pointer(&r.v) }
 func (r *Giving[T]) fill(unsafe.Pointer, bool) {}

@@ -9,7 +9,7 @@ import (
 
 // set has the lock: g is about to set the timer with this channel.
 func (g *G) set(c <-chan time.Time, s *Site) {
-	p := pointerTo(&c)
+	p := pointerTo(unsafe.Pointer(&c))
 	ch := channels[p]
 	if ch == nil {
 		ch = &channel{p: p, foreign: true}

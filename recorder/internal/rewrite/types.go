@@ -25,27 +25,48 @@ func under(t types.Type) types.Type {
 }
 
 // core is the underlying type of t, or, of a type parameter, that of all types that it may
-// stand for, where that is one.
+// stand for, where that is one; of channels that differ in their directions alone, the one
+// whose operations all have.
 func core(t types.Type) types.Type {
 	p, ok := t.(*types.TypeParam)
 	if !ok {
 		return under(t)
 	}
 	all := terms(p.Constraint())
-	for _, other := range all {
-		if !types.Identical(other, all[0]) {
-			return under(t)
-		}
-	}
 	if len(all) == 0 {
 		return under(t)
 	}
-	return all[0]
+	common := all[0]
+	for _, other := range all {
+		if common = commonOf(common, other); common == nil {
+			return under(t)
+		}
+	}
+	return common
+}
+
+// commonOf is the type of both if they are identical, or the channel whose operations both
+// have, which is nil if one only sends and the other only receives.
+func commonOf(t, other types.Type) types.Type {
+	if types.Identical(t, other) {
+		return t
+	}
+	c, ok := t.(*types.Chan)
+	d, ok2 := other.(*types.Chan)
+	switch {
+	case !ok || !ok2 || !types.Identical(c.Elem(), d.Elem()):
+		return nil
+	case d.Dir() == types.SendRecv:
+		return t
+	case c.Dir() == types.SendRecv:
+		return other
+	}
+	return nil
 }
 
 // terms are the underlying types that a constraint lists.
 func terms(t types.Type) (all []types.Type) {
-	switch t := t.Underlying().(type) {
+	switch t := under(t).(type) {
 	case *types.Union:
 		for i := 0; i < t.Len(); i++ {
 			all = append(all, terms(t.Term(i).Type())...)
@@ -150,9 +171,15 @@ func (r *rewriter) isLoose(e ast.Expr) bool {
 	return ok && !comparable119(m.Key())
 }
 
+// isChan reports whether e is a channel, whatever type its type parameter stands for.
 func (r *rewriter) isChan(e ast.Expr) bool {
-	_, ok := core(r.typeOf(e)).(*types.Chan)
-	return ok
+	all := terms(r.typeOf(e))
+	for _, t := range all {
+		if _, ok := t.(*types.Chan); !ok {
+			return false
+		}
+	}
+	return len(all) > 0
 }
 
 // isConstant reports whether nothing is evaluated for e.

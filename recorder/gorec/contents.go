@@ -102,7 +102,5 @@ func filled(b []byte, n int, s *Site) {
 	begin()
 	g.takeIn(s)
 	mu.Unlock()
-	for _, part := range atEnds(b[:n], most) {
-		writeElements(g.at(s), part)
-	}
+	wroteAtEnds(b[:n], s)
 }

@@ -103,6 +103,17 @@ func readAtEnds[E any](a []E, wanted int, s *Site) {
 	}
 }
 
+// wroteAtEnds is behind a function of the standard library that wrote these elements.
+func wroteAtEnds[E any](a []E, s *Site) {
+	if len(a) == 0 || alone() {
+		return
+	}
+	o := current(s).at(s)
+	for _, part := range atEnds(a, most) {
+		writeElements(o, part)
+	}
+}
+
 // atEnds are the first and the last wanted ones of a slice's elements.
 func atEnds[E any](a []E, wanted int) [2][]E {
 	if len(a) <= 2*wanted {

@@ -12,6 +12,8 @@ func (r *rewriter) tabledCall(e *ast.CallExpr, sel *ast.SelectorExpr, f *types.F
 	switch {
 	case wholeCalls[full] != "":
 		r.wholeCall(e, sel, f, wholeCalls[full], r.lastName(e))
+	case sliceCalls[full] != "":
+		r.wholeCall(e, sel, f, sliceCalls[full], r.elementNames(e, f)...)
 	case readMethod(f) != "" && !r.own[f.Pkg().Path()]:
 		r.wholeCall(e, sel, f, readMethod(f), r.name(e.Args[0])+"_elem")
 	case replacedCalls[full] != "":
@@ -28,15 +30,38 @@ func (r *rewriter) tabledCall(e *ast.CallExpr, sel *ast.SelectorExpr, f *types.F
 	return true
 }
 
-// wholeCall puts a function of the recorder's round the one that is called.
-func (r *rewriter) wholeCall(e *ast.CallExpr, sel *ast.SelectorExpr, f *types.Func, call, name string) {
-	s := r.site(e, name)
+// wholeCall puts a function of the recorder's round the one that is called. It has a site for each
+// of the names.
+func (r *rewriter) wholeCall(e *ast.CallExpr, sel *ast.SelectorExpr, f *types.Func, call string, names ...string) {
+	s := ""
+	for _, name := range names {
+		s += ", " + r.site(e, name)
+	}
 	r.insert(sel.Pos(), "gorec."+call+"(")
 	if hasReceiver(f) {
 		r.methodCall(e, sel, f)
 	}
-	r.insert(sel.End(), ", "+s+")")
+	r.insert(sel.End(), s+")")
 	r.arguments(e, f)
+}
+
+// elementNames are what the elements of the slices that f is handed are called.
+func (r *rewriter) elementNames(e *ast.CallExpr, f *types.Func) (names []string) {
+	params := f.Type().(*types.Signature).Params()
+	for i := 0; i < params.Len(); i++ {
+		if isSlice(params.At(i).Type()) {
+			names = append(names, r.name(argumentAt(e, i))+"_elem")
+		}
+	}
+	return names
+}
+
+// argumentAt is argument i, or the last one, which may be a call that answers several.
+func argumentAt(e *ast.CallExpr, i int) ast.Expr {
+	if i >= len(e.Args) {
+		i = len(e.Args) - 1
+	}
+	return e.Args[i]
 }
 
 // lastName is what a call's last argument is called.
@@ -178,6 +203,8 @@ func (r *rewriter) foreignArgument(e *ast.CallExpr, f *types.Func, i int) {
 	a := e.Args[i]
 	call, known := r.looksInto(e, f, i)
 	switch {
+	case call == "Sortable": // by whose methods it is recorded, whenever that is
+		r.wrapArgument(a, call, r.site(a, r.name(converted(a))+"_elem"))
 	case !known || call != "" && !isEnd(r.typeOf(a)) && (r.postponed || r.calls(e.Args[i+1:]...)):
 		r.result.Missed = append(r.result.Missed, f.FullName())
 		r.value(a)
@@ -185,6 +212,17 @@ func (r *rewriter) foreignArgument(e *ast.CallExpr, f *types.Func, i int) {
 		r.value(a)
 	default:
 		r.wrapArgument(a, call, r.site(a, r.name(a)))
+	}
+}
+
+// converted is what e is made of by conversions and functions as sort.Reverse.
+func converted(e ast.Expr) ast.Expr {
+	for {
+		c, ok := unparen(e).(*ast.CallExpr)
+		if !ok || len(c.Args) != 1 {
+			return e
+		}
+		e = c.Args[0]
 	}
 }
 
@@ -202,6 +240,10 @@ func (r *rewriter) looksInto(e *ast.CallExpr, f *types.Func, i int) (call string
 		}
 	case showFunctions[full] && spread, isSlice(t) && readsElements(f):
 		call = "Handed"
+	case sortingFunctions[full]:
+		if n, ok := t.(*types.Named); isInterface(t) || ok && n.Obj().Pkg().Path() == "sort" {
+			call = "Sortable"
+		}
 	case showFunctions[full]:
 		call = "Shown"
 	case encodeFunctions[full]:
@@ -281,7 +323,7 @@ func readsElements(f *types.Func) bool {
 	}
 	for _, begin := range otherNames {
 		if strings.HasPrefix(f.Name(), begin) {
-			return false
+			return readingNames[f.FullName()] || begin == "Sum" && !hasReceiver(f)
 		}
 	}
 	return true

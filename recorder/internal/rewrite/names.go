@@ -22,6 +22,8 @@ func (r *rewriter) name(e ast.Expr) string {
 		return r.name(e.X) + "_elem"
 	case *ast.StarExpr:
 		return r.name(e.X) + "_at"
+	case *ast.SliceExpr:
+		return r.name(e.X)
 	case *ast.UnaryExpr:
 		return r.name(e.X)
 	case *ast.CallExpr:

@@ -20,10 +20,11 @@ var update = flag.Bool("update", false, "write what the rewriting gives to testd
 // prelude has what the forms use. All its variables are shared, since they are written.
 const prelude = `package forms
 
-import ("bytes"; "context"; "encoding/json"; "encoding/xml"; "fmt"; "io"; "math/rand"; "net/http"; "os"; "os/signal"; "reflect"
-	"runtime/pprof"; "sort"; "strings"; "sync"; "sync/atomic"; "text/template"; "time")
+import ("bytes"; "context"; "crypto/hmac"; "crypto/sha256"; "encoding/base64"; "encoding/hex"; "encoding/json"; "encoding/xml"
+	"errors"; "fmt"; "io"; "math/rand"; "net/http"; "os"; "os/signal"; "reflect"; "runtime/pprof"; "sort"; "strconv"; "strings"
+	"sync"; "sync/atomic"; "text/template"; "time"; "unicode/utf8")
 
-var _ = []any{json.Marshal, xml.Marshal, fmt.Println, reflect.ValueOf, pprof.Do, sort.Ints, strings.Join, atomic.AddInt64, time.After,
+var _ = []any{hmac.New, sha256.New, base64.StdEncoding, hex.Decode, errors.As, strconv.Itoa, utf8.RuneLen, json.Marshal, xml.Marshal, fmt.Println, reflect.ValueOf, pprof.Do, sort.Ints, strings.Join, atomic.AddInt64, time.After,
 	context.Background, signal.Notify, template.New}
 
 type pair struct{ c, d int }

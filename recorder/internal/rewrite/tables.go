@@ -102,6 +102,38 @@ var wholeCalls = map[string]string{
 	"sort.Strings":                      "Sorts",
 }
 
+// sliceCalls are those that go round a function which reads or writes elements of its first argument,
+// or which it appends to.
+var sliceCalls = map[string]string{
+	"sort.SearchFloat64s":                "Searches",
+	"sort.SearchInts":                    "Searches",
+	"sort.SearchStrings":                 "Searches",
+	"sort.Float64sAreSorted":             "Checks",
+	"sort.IntsAreSorted":                 "Checks",
+	"sort.StringsAreSorted":              "Checks",
+	"unicode/utf8.DecodeRune":            "Decodes",
+	"unicode/utf8.DecodeLastRune":        "DecodesLast",
+	"encoding/hex.Encode":                "Codes",
+	"encoding/hex.Decode":                "CodesOr",
+	"(*encoding/base32.Encoding).Decode": "CodesOr",
+	"(*encoding/base64.Encoding).Decode": "CodesOr",
+	"unicode/utf8.AppendRune":            "Appends1",
+	"strconv.AppendBool":                 "Appends1",
+	"strconv.AppendQuote":                "Appends1",
+	"strconv.AppendQuoteRune":            "Appends1",
+	"strconv.AppendQuoteRuneToASCII":     "Appends1",
+	"strconv.AppendQuoteRuneToGraphic":   "Appends1",
+	"strconv.AppendQuoteToASCII":         "Appends1",
+	"strconv.AppendQuoteToGraphic":       "Appends1",
+	"(time.Time).AppendFormat":           "Appends1",
+	"strconv.AppendInt":                  "Appends2",
+	"strconv.AppendUint":                 "Appends2",
+	"strconv.AppendFloat":                "Appends4",
+}
+
+// sortingFunctions use the methods of what they are handed.
+var sortingFunctions = words(`sort.Sort sort.Stable sort.IsSorted`)
+
 // replacedCalls are functions that one of the recorder's takes the place of.
 var replacedCalls = map[string]string{
 	"reflect.Copy":     "ReflectCopy",
@@ -115,10 +147,13 @@ var missingPackages = words(`encoding/asn1 encoding/binary encoding/gob encoding
 	html/template text/template`)
 
 // readingPackages have functions that read the elements of slices that they are handed, but
-// for those whose names begin with one of otherNames.
+// for those whose names begin with one of otherNames. Of these a function Sum reads, as no method
+// Sum does, and so do the readingNames.
 var readingPackages = words(`bufio bytes crypto encoding hash io net os path regexp strconv strings unicode`)
 
 var otherNames = strings.Fields("Append Buffer Decode Encode Fill New Next Put Read Shuffle Sort Sum XOR")
+
+var readingNames = words(`crypto/hmac.New strings.NewReplacer`)
 
 func words(text string) map[string]bool {
 	m := map[string]bool{}

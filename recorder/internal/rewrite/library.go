@@ -14,6 +14,8 @@ func (r *rewriter) tabledCall(e *ast.CallExpr, sel *ast.SelectorExpr, f *types.F
 		r.wholeCall(e, sel, f, wholeCalls[full], r.lastName(e))
 	case sliceCalls[full] != "":
 		r.wholeCall(e, sel, f, sliceCalls[full], r.elementNames(e, f)...)
+	case pointerCalls[full] != "":
+		r.wholeCall(e, sel, f, pointerCalls[full], r.lastNames(e, f)...)
 	case readMethod(f) != "" && !r.own[f.Pkg().Path()]:
 		r.wholeCall(e, sel, f, readMethod(f), r.name(e.Args[0])+"_elem")
 	case replacedCalls[full] != "":
@@ -56,8 +58,21 @@ func (r *rewriter) elementNames(e *ast.CallExpr, f *types.Func) (names []string)
 	return names
 }
 
-// argumentAt is argument i, or the last one, which may be a call that answers several.
+// lastNames are what the arguments are called that stand for f's last parameter.
+func (r *rewriter) lastNames(e *ast.CallExpr, f *types.Func) (names []string) {
+	last := f.Type().(*types.Signature).Params().Len() - 1
+	for i := last; i == last || i < len(e.Args); i++ {
+		names = append(names, r.name(argumentAt(e, i)))
+	}
+	return names
+}
+
+// argumentAt is argument i, or the last one, which may be a call that answers several, or what is
+// called where there is none.
 func argumentAt(e *ast.CallExpr, i int) ast.Expr {
+	if len(e.Args) == 0 {
+		return e.Fun
+	}
 	if i >= len(e.Args) {
 		i = len(e.Args) - 1
 	}

@@ -131,6 +131,20 @@ var sliceCalls = map[string]string{
 	"strconv.AppendFloat":                "Appends4",
 }
 
+// pointerCalls are those that go round a function which writes what its last arguments point to.
+var pointerCalls = map[string]string{
+	"errors.As":   "Finds",
+	"fmt.Scan":    "Scans",
+	"fmt.Scanln":  "Scans",
+	"fmt.Fscan":   "Scans1",
+	"fmt.Fscanln": "Scans1",
+	"fmt.Scanf":   "Scans1",
+	"fmt.Sscan":   "Scans1",
+	"fmt.Sscanln": "Scans1",
+	"fmt.Fscanf":  "Scans2",
+	"fmt.Sscanf":  "Scans2",
+}
+
 // sortingFunctions use the methods of what they are handed.
 var sortingFunctions = words(`sort.Sort sort.Stable sort.IsSorted`)
 

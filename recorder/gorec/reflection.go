@@ -82,6 +82,7 @@ type walk struct {
 	deep    bool // pointers are followed wherever they stand
 	settle  bool // nothing is recorded, but it is known what each location holds
 	fill    bool // what changed since, unrecorded, was written by the function
+	encode  bool // what methods of their own encode, and unexported fields, are left out
 	left    int  // so many values more
 	behind  int  // and so many elements more behind the ends of slices
 	visited map[unsafe.Pointer]bool
@@ -96,8 +97,17 @@ func Shown[T any](v T, s *Site) T {
 	return v
 }
 
-// Encoded is a value that a function as json.Marshal reads, behind pointers too.
+// Encoded is a value that a function as json.Marshal reads, behind pointers too: what its methods
+// and exported fields say.
 func Encoded[T any](v T, s *Site) T {
+	if !alone() {
+		walkAll(&walk{deep: true, encode: true}, v, s)
+	}
+	return v
+}
+
+// Compared is a value that reflect.DeepEqual reads, behind pointers too.
+func Compared[T any](v T, s *Site) T {
 	if !alone() {
 		walkAll(&walk{deep: true}, v, s)
 	}
@@ -149,7 +159,7 @@ func walkAll(w *walk, v any, s *Site) {
 }
 
 func (w *walk) value(v reflect.Value, depth int) {
-	if w.left--; w.left < 0 || !v.IsValid() || printsItself(v) {
+	if w.left--; w.left < 0 || !v.IsValid() || w.saysItself(v) {
 		return
 	}
 	switch v.Kind() {
@@ -159,7 +169,7 @@ func (w *walk) value(v reflect.Value, depth int) {
 		w.pointer(v, depth)
 	case reflect.Slice:
 		for i := 0; i < v.Len() && w.left > 0; i++ {
-			w.access(v.Index(i))
+			w.look(v.Index(i))
 			w.value(v.Index(i), depth+1)
 		}
 		if w.settle {
@@ -171,23 +181,69 @@ func (w *walk) value(v reflect.Value, depth int) {
 		}
 	case reflect.Struct:
 		for i := 0; i < v.NumField(); i++ {
-			w.value(v.Field(i), depth+1)
+			if !w.encode || isEncoded(v.Type().Field(i)) {
+				w.value(v.Field(i), depth+1)
+			}
 		}
 	case reflect.Map:
 		w.mapping(v, depth)
 	}
 }
 
-// printsItself reports whether a value's own methods, which are recorded by themselves, print it.
-func printsItself(v reflect.Value) bool {
-	if !v.CanInterface() {
+// saysItself reports whether a value's own methods, which are recorded by themselves, print or
+// encode it.
+func (w *walk) saysItself(v reflect.Value) bool {
+	if !v.CanInterface() || v.Kind() == reflect.Interface {
 		return false
+	}
+	if path := v.Type().PkgPath(); path == "sync" || path == "sync/atomic" {
+		return true
+	}
+	if w.encode {
+		return encodesItself(v)
 	}
 	switch v.Interface().(type) {
 	case error, fmt.Stringer, fmt.Formatter:
-		return v.Kind() != reflect.Interface
+		return true
 	}
-	return v.Type().PkgPath() == "sync" || v.Type().PkgPath() == "sync/atomic"
+	return false
+}
+
+// encodesItself reports whether a function as json.Marshal calls a method of the value, or of a
+// pointer to where it stands.
+func encodesItself(v reflect.Value) bool {
+	for _, m := range marshalers {
+		if v.Type().Implements(m) || v.CanAddr() && reflect.PointerTo(v.Type()).Implements(m) {
+			return true
+		}
+	}
+	return false
+}
+
+var marshalers = []reflect.Type{
+	typeOf[interface{ MarshalJSON() ([]byte, error) }](), typeOf[interface{ MarshalText() ([]byte, error) }](),
+	typeOf[interface{ MarshalBinary() ([]byte, error) }](), typeOf[interface{ GobEncode() ([]byte, error) }](),
+}
+
+func typeOf[T any]() reflect.Type { return reflect.TypeOf((*T)(nil)).Elem() }
+
+// isEncoded reports whether a function as json.Marshal may look at a field.
+func isEncoded(f reflect.StructField) bool {
+	return (f.IsExported() || f.Anonymous) && f.Tag.Get("json") != "-" && f.Tag.Get("xml") != "-"
+}
+
+// look reads what a pointer or an element leads to: to encode a struct, its fields that are encoded.
+func (w *walk) look(v reflect.Value) {
+	switch {
+	case !w.encode || v.Kind() != reflect.Struct:
+		w.access(v)
+	case !w.saysItself(v):
+		for i := 0; i < v.NumField(); i++ {
+			if isEncoded(v.Type().Field(i)) {
+				w.look(v.Field(i))
+			}
+		}
+	}
 }
 
 func (w *walk) pointer(v reflect.Value, depth int) {
@@ -203,7 +259,7 @@ func (w *walk) pointer(v reflect.Value, depth int) {
 			return // printed as an address
 		}
 	}
-	w.access(v.Elem())
+	w.look(v.Elem())
 	w.value(v.Elem(), depth+1)
 }
 

@@ -261,6 +261,8 @@ func (r *rewriter) looksInto(e *ast.CallExpr, f *types.Func, i int) (call string
 		}
 	case showFunctions[full]:
 		call = "Shown"
+	case full == "reflect.DeepEqual":
+		call = "Compared"
 	case encodeFunctions[full]:
 		call = "Encoded"
 	case missingPackages[f.Pkg().Path()] && wholeCalls[full] == "" && receiverType(f) != "reflect.Value" && !onlyKeeps(f):

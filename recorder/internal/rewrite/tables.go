@@ -73,7 +73,7 @@ var showFunctions = words(`fmt.Print fmt.Printf fmt.Println fmt.Sprint fmt.Sprin
 	(*testing.common).Errorf (*testing.common).Fatal (*testing.common).Fatalf`)
 
 // encodeFunctions read all that their arguments lead to, as do the methods Encode.
-var encodeFunctions = words(`encoding/json.Marshal encoding/json.MarshalIndent encoding/xml.Marshal reflect.DeepEqual
+var encodeFunctions = words(`encoding/json.Marshal encoding/json.MarshalIndent encoding/xml.Marshal
 	(*encoding/json.Encoder).Encode (*encoding/xml.Encoder).Encode (*encoding/gob.Encoder).Encode`)
 
 // wholeCalls are functions that a function of the recorder's goes round.

@@ -2,6 +2,7 @@ package rewrite
 
 import (
 	"go/ast"
+	"go/constant"
 	"go/types"
 	"strings"
 )
@@ -248,7 +249,7 @@ func (r *rewriter) looksInto(e *ast.CallExpr, f *types.Func, i int) (call string
 	t := r.typeOf(a)
 	spread := e.Ellipsis.IsValid() && i == len(e.Args)-1
 	switch {
-	case r.isConstant(a) || !leads(t):
+	case r.isConstant(a) || !leads(t) || showFunctions[full] && r.namesOnly(e, f, i):
 	case streamFunctions[full] && takesStream(full, i) && !isSlice(t) && !spread:
 		if mayStream(t) || isEnd(t) {
 			call = streamCall(readsStream(full, i))
@@ -269,6 +270,40 @@ func (r *rewriter) looksInto(e *ast.CallExpr, f *types.Func, i int) (call string
 		return "", false
 	}
 	return call, true
+}
+
+// namesOnly reports whether a function as fmt.Printf prints of argument i but its type or address.
+func (r *rewriter) namesOnly(e *ast.CallExpr, f *types.Func, i int) bool {
+	format := f.Type().(*types.Signature).Params().Len() - 2
+	if !strings.HasSuffix(f.Name(), "f") || i <= format || e.Ellipsis.IsValid() {
+		return false
+	}
+	said := r.info.Types[e.Args[format]].Value
+	if said == nil || said.Kind() != constant.String {
+		return false
+	}
+	verbs, n := verbsOf(constant.StringVal(said)), i-format-1
+	return n < len(verbs) && (verbs[n] == 'T' || verbs[n] == 'p')
+}
+
+// verbsOf are the verbs of a format, one for each operand, up to one that says which it takes.
+func verbsOf(format string) (verbs []rune) {
+	isVerb := false
+	for _, c := range format {
+		switch {
+		case !isVerb:
+			isVerb = c == '%'
+		case strings.ContainsRune("+-# 0123456789.", c):
+		case c == '*' || c == '[':
+			return verbs
+		default:
+			isVerb = false
+			if c != '%' {
+				verbs = append(verbs, c)
+			}
+		}
+	}
+	return verbs
 }
 
 // onlyKeeps reports whether a function makes something of its arguments whose methods use them, as

@@ -60,7 +60,7 @@ func (p *page) hit() {
 	l.mu.Unlock()
 }
 
-// What a coder doesn't look at, or methods of the program's look at, it doesn't read.
+// What a coder doesn't look at, or methods of the program's look at, it doesn't read. Nor does %T.
 func main() {
 	p := &page{Title: "home", Labels: []*label{{Text: "a"}}}
 	c := &counter{}
@@ -73,6 +73,9 @@ func main() {
 		done <- true
 	}()
 	for i := 0; i < 50; i++ {
+		if fmt.Sprintf("%d%% %-9T at %p", i, p, c) == "" {
+			break
+		}
 		if _, err := json.Marshal(p); err != nil {
 			fmt.Println(err)
 		}

@@ -8,20 +8,26 @@ use std::alloc::Global;
 use std::sync::Wait;
 use std::sync::atomic::{AtomicU64, Ordering};
 use std::test::Fail;
-use std::thread::Threads;
+use std::thread::{self, Threads};
+use std::time::{Clock, Duration};
 
-// A gate at which so many shards wait for each other in each block, each for at most 100,000,000 turns: a shard that is
-// refused its thread would be waited for without end.
+// How often one looks for the others, a millisecond apart, so that a busy machine lets them come.
+const LOOKS: u32 = 60_000;
+
+// A gate at which so many shards wait for each other in each block. A shard that is refused its thread would be waited for
+// without end.
 #[derive(Drop)]
-struct Meeting {
+struct Meeting<'a, C> {
+    clock: &'a C,
     shards: u64,
     here: AtomicU64,
     met: AtomicU64,
 }
 
-impl Meeting {
-    fn new(shards: u64) -> Meeting {
+impl<'a, C> Meeting<'a, C> {
+    fn new(clock: &'a C, shards: u64) -> Self {
         Meeting {
+            clock,
             shards,
             here: AtomicU64::new(0),
             met: AtomicU64::new(0),
@@ -29,16 +35,17 @@ impl Meeting {
     }
 }
 
-impl Gate for Meeting {
+impl<C: Clock + Sync> Gate for Meeting<'_, C> {
     // Who comes as number n belongs to block n / shards, whose last comes as number (n / shards + 1) * shards - 1.
     fn enter(&self, _shard: usize) {
         let before = self.here.fetch_add(1, Ordering::SeqCst);
-        for _ in 0..100_000_000u32 {
+        for _ in 0..LOOKS {
             let here = self.here.load(Ordering::SeqCst);
             if here.checked_div(self.shards) > before.checked_div(self.shards) {
                 self.met.fetch_add(1, Ordering::SeqCst);
                 return;
             }
+            thread::sleep(self.clock, Duration::from_millis(1));
         }
     }
 }
@@ -47,13 +54,13 @@ static TWO_BLOCKS: &str =
     "go main a p\nwrite main y 1 p\nwrite main x 1 p\nwrite a x 2 p\nwrite a y 2 p\n";
 
 // How many times a shard met all others in two blocks.
-fn met<R: Threads + Wait>(
+fn met<R: Threads + Wait + Clock + Sync>(
     rt: &R,
     alloc: Global,
     trace: &Trace,
     shards: usize,
 ) -> Result<u64, Fail> {
-    let gate = Meeting::new(shards as u64);
+    let gate = Meeting::new(rt, shards as u64);
     let _verdict = Judge::judge(rt, alloc, trace, shards, 3, &gate)?;
     Ok(gate.met.load(Ordering::SeqCst))
 }

@@ -94,7 +94,7 @@ func AtomicStore[P, V any](f func(*P, V), s *Site) func(*P, V) {
 	}
 }
 
-// AtomicChange is an Add or a Swap of package atomic.
+// AtomicChange is an Add, a Swap, an And or an Or of package atomic.
 func AtomicChange[P, V, R any](f func(*P, V) R, s *Site) func(*P, V) R {
 	if off {
 		return f
@@ -180,6 +180,24 @@ func (x Atomic[T]) Swap(v T) (r T) {
 func (x Atomic[T]) Add(v T) (r T) {
 	x.with(func() int { r = x.add(v); return loads | stores })
 	return r
+}
+
+// masked has what the numbers of package atomic have since Go 1.23.
+type masked[T any] interface {
+	And(T) T
+	Or(T) T
+}
+
+// And is that of the value.
+func (x Atomic[T]) And(mask T) (old T) {
+	x.with(func() int { old = x.box.(masked[T]).And(mask); return loads | stores })
+	return old
+}
+
+// Or is that of the value.
+func (x Atomic[T]) Or(mask T) (old T) {
+	x.with(func() int { old = x.box.(masked[T]).Or(mask); return loads | stores })
+	return old
 }
 
 // CompareAndSwap is that of the value.

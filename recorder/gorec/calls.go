@@ -91,7 +91,7 @@ func keep(pc uintptr, text string) *call {
 
 // appendCall appends a function and its place, unless it is the recorder's.
 func appendCall(line []byte, f runtime.Frame) []byte {
-	if f.Function == "" || isOurs(f.Function) || strings.HasSuffix(f.File, "/gorec_sites.go") {
+	if f.Function == "" || isOurs(f.Function) || strings.HasPrefix(f.File, ownFolder) || strings.HasSuffix(f.File, "/gorec_sites.go") {
 		return line
 	}
 	line = append(append(line, '\t'), strings.Replace(f.Function, ".gorec_main", ".main", 1)...)
@@ -99,7 +99,10 @@ func appendCall(line []byte, f runtime.Frame) []byte {
 	return strconv.AppendInt(line, int64(f.Line), 10)
 }
 
-const ownPackage = "gorace.local/recorder/gorec."
+const (
+	ownPackage = "gorace.local/recorder/gorec."
+	ownFolder  = "gorace.local/recorder/gorec/" // also of what is inlined elsewhere
+)
 
 // isOurs reports whether a function is the recorder's, or one that begins each goroutine.
 func isOurs(function string) bool {

@@ -94,13 +94,24 @@ func Into2[R any](f func(R, []byte) (int, error), s *Site) func(R, []byte) (int,
 	}
 }
 
+// Into3 is Into for io.ReadAtLeast.
+func Into3[R any](f func(R, []byte, int) (int, error), s *Site) func(R, []byte, int) (int, error) {
+	return func(r R, b []byte, least int) (int, error) {
+		n, err := f(r, b, least)
+		filled(b, n, s)
+		return n, err
+	}
+}
+
 func filled(b []byte, n int, s *Site) {
-	if alone() || n <= 0 || n > len(b) {
+	if alone() {
 		return
 	}
 	g := current(s)
 	begin()
-	g.takeIn(s)
+	g.takeIn(s) // at the end of what is read too, which may be who closed it
 	mu.Unlock()
-	wroteAtEnds(b[:n], s)
+	if 0 < n && n <= len(b) {
+		wroteAtEnds(b[:n], s)
+	}
 }

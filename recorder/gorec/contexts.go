@@ -2,6 +2,7 @@ package gorec
 
 import (
 	"context"
+	"os"
 	"reflect"
 	"time"
 	"unsafe"
@@ -86,7 +87,18 @@ func (x *ownParent) String() string {
 	return reflect.TypeOf(x.Context).String()
 }
 
-// newDone follows a context that the program makes; nil is none.
+// doneAtBirth is the Done of each context that is canceled where it is made: package context has
+// one channel for all. So it has no record; who makes such a context comes behind what canceled it.
+var doneAtBirth = func() unsafe.Pointer {
+	ctx, cancel := context.WithDeadline(context.Background(), time.Time{})
+	defer cancel()
+	done := ctx.Done()
+	p := pointerTo(unsafe.Pointer(&done))
+	channels[p] = &channel{p: p, foreign: true, closed: true}
+	return p
+}()
+
+// newDone follows a context that the program makes; nil is none, or one that is done at birth.
 func newDone(parent, ctx context.Context, own *ownParent, deadline bool, s *Site) *doneChannel {
 	above, done := parent.Done(), ctx.Done()
 	g := current(s)
@@ -95,7 +107,14 @@ func newDone(parent, ctx context.Context, own *ownParent, deadline bool, s *Site
 	if done == nil {
 		return nil
 	}
-	ch := &channel{p: pointerTo(unsafe.Pointer(&done)), id: declare(wire.DeclareChan, 0, 0, s), part: part, site: s.ID}
+	up, p := channels[pointerTo(unsafe.Pointer(&above))], pointerTo(unsafe.Pointer(&done))
+	if p == doneAtBirth {
+		if up != nil && up.done != nil && isClosed(above) {
+			g.findsDone(up, s)
+		}
+		return nil
+	}
+	ch := &channel{p: p, id: declare(wire.DeclareChan, 0, 0, s), part: part, site: s.ID}
 	d := &doneChannel{channel: ch}
 	ch.done = d
 	channels[ch.p] = ch
@@ -105,7 +124,7 @@ func newDone(parent, ctx context.Context, own *ownParent, deadline bool, s *Site
 		d.timer.site, d.timer.stack = s.ID, stackNumber()
 		g.step(wire.Record{Op: wire.Go, Other: d.timer.id, Site: s.ID, OtherSite: d.timer.stack})
 	}
-	if up := channels[pointerTo(unsafe.Pointer(&above))]; up != nil && up.done != nil {
+	if up != nil && up.done != nil {
 		up.done.children = append(up.done.children, d)
 		if up.closed { // canceled at birth
 			d.close(g, s)
@@ -114,6 +133,23 @@ func newDone(parent, ctx context.Context, own *ownParent, deadline bool, s *Site
 		}
 	}
 	return d
+}
+
+// isClosed is asked of a context's Done, on which nobody sends.
+func isClosed(done <-chan struct{}) bool {
+	select {
+	case <-done:
+		return true
+	default:
+		return false
+	}
+}
+
+// findsDone has the lock: g has found the context of a Done done.
+func (g *G) findsDone(ch *channel, s *Site) {
+	ch.enter()
+	ch.done.ended()
+	g.note(wire.ReceiveClosed, ch.id, s)
 }
 
 // close has the lock.
@@ -171,14 +207,19 @@ func (d *doneChannel) canceler(f context.CancelFunc, s *Site) context.CancelFunc
 	}
 }
 
+// follow follows a context that was made of parent, and is what cancels it then.
+func (x *ownParent) follow(parent, ctx context.Context, deadline bool, cancel context.CancelFunc, s *Site) context.CancelFunc {
+	if off {
+		return cancel
+	}
+	return newDone(parent, ctx, x, deadline, s).canceler(cancel, s)
+}
+
 // WithCancel is that of package context.
 func WithCancel(parent context.Context, s *Site) (context.Context, context.CancelFunc) {
 	own := ownParentOf(parent, s)
 	ctx, cancel := context.WithCancel(own.orElse(parent))
-	if off {
-		return ctx, cancel
-	}
-	return ctx, newDone(parent, ctx, own, false, s).canceler(cancel, s)
+	return ctx, own.follow(parent, ctx, false, cancel, s)
 }
 
 // WithTimeout is that of package context.
@@ -190,10 +231,96 @@ func WithTimeout(parent context.Context, d time.Duration, s *Site) (context.Cont
 func WithDeadline(parent context.Context, at time.Time, s *Site) (context.Context, context.CancelFunc) {
 	own := ownParentOf(parent, s)
 	ctx, cancel := context.WithDeadline(own.orElse(parent), at)
-	if off {
-		return ctx, cancel
+	return ctx, own.follow(parent, ctx, true, cancel, s)
+}
+
+// WithCancelCause is a function of package context that is handed to it.
+func WithCancelCause[C ~func(error)](f func(context.Context) (context.Context, C), s *Site) func(context.Context) (context.Context, C) {
+	return func(parent context.Context) (context.Context, C) {
+		own := ownParentOf(parent, s)
+		ctx, cancel := f(own.orElse(parent))
+		if off {
+			return ctx, cancel
+		}
+		d := newDone(parent, ctx, own, false, s)
+		return ctx, func(cause error) { d.canceler(func() { cancel(cause) }, s)() }
 	}
-	return ctx, newDone(parent, ctx, own, true, s).canceler(cancel, s)
+}
+
+// WithEndCause is context.WithTimeoutCause or WithDeadlineCause, which is handed to it.
+func WithEndCause[E any](f func(context.Context, E, error) (context.Context, context.CancelFunc), s *Site) func(context.Context, E, error) (context.Context, context.CancelFunc) {
+	return func(parent context.Context, end E, cause error) (context.Context, context.CancelFunc) {
+		own := ownParentOf(parent, s)
+		ctx, cancel := f(own.orElse(parent), end, cause)
+		return ctx, own.follow(parent, ctx, true, cancel, s)
+	}
+}
+
+// NotifyContext is that of package os/signal, two of whose functions it is handed.
+func NotifyContext(notify func(chan<- os.Signal, ...os.Signal), stop func(chan<- os.Signal), s *Site) func(context.Context, ...os.Signal) (context.Context, context.CancelFunc) {
+	return func(parent context.Context, signals ...os.Signal) (context.Context, context.CancelFunc) {
+		own := ownParentOf(parent, s)
+		ctx, cancel := context.WithCancel(own.orElse(parent))
+		came := make(chan os.Signal, 1)
+		notify(came, signals...)
+		if ctx.Err() == nil {
+			go func() {
+				select {
+				case <-came:
+					cancel()
+				case <-ctx.Done():
+				}
+			}()
+		}
+		ends := own.follow(parent, ctx, false, cancel, s)
+		return ctx, func() {
+			ends()
+			stop(came)
+		}
+	}
+}
+
+// followTest follows the context that a test has since Go 1.24, which package testing cancels in the
+// test's goroutine where the test ends.
+func followTest(t any, s *Site) {
+	x, has := t.(interface{ Context() context.Context })
+	if !has || off {
+		return
+	}
+	if d := newDone(context.Background(), x.Context(), nil, false, s); d != nil {
+		g := current(s)
+		begin()
+		d.cancels(g, s)
+		mu.Unlock()
+	}
+}
+
+// AfterDone is context.AfterFunc, which is handed to it: what it starts comes behind what ended the
+// context.
+func AfterDone(after func(context.Context, func()) func() bool, s *Site) func(context.Context, func()) func() bool {
+	return func(ctx context.Context, f func()) func() bool {
+		return after(ctx, func() {
+			foundDone(ctx, s)
+			f()
+		})
+	}
+}
+
+func foundDone(ctx context.Context, s *Site) {
+	if off {
+		return
+	}
+	done, g := ctx.Done(), current(s)
+	begin()
+	defer mu.Unlock()
+	switch ch := channels[pointerTo(unsafe.Pointer(&done))]; {
+	case ch == nil:
+	case ch.done != nil:
+		g.findsDone(ch, s)
+	case ch.isPlain() && ch.closed:
+		ch.enter()
+		g.note(wire.ReceiveClosed, ch.id, s)
+	}
 }
 
 // ContextAt is a context whose Err is asked for: an error comes behind what ended it.
@@ -216,9 +343,7 @@ func (x ContextAt) Err() error {
 	begin()
 	defer mu.Unlock()
 	if ch := channels[pointerTo(unsafe.Pointer(&done))]; ch != nil && ch.done != nil {
-		ch.enter()
-		ch.done.ended()
-		g.note(wire.ReceiveClosed, ch.id, x.s)
+		g.findsDone(ch, x.s)
 	}
 	return err
 }

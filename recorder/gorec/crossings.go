@@ -1,6 +1,9 @@
 package gorec
 
-import "sync/atomic"
+import (
+	"reflect"
+	"sync/atomic"
+)
 
 // Goroutines also meet in files, sockets and HTTP, by means of the standard library. As in
 // Go's own detector, what a goroutine did before it wrote to any of them comes before what
@@ -10,6 +13,8 @@ var (
 	sentOut []sending           // the oldest first
 	newest  uint32              // the order of the last one, read without the lock too
 	adopted = map[*G]struct{}{} // those that code without the recorder started, and that go on
+
+	lastWork uint32 // the order of what those did that have ended
 )
 
 // sending is a write of a goroutine, and the order of it.
@@ -31,13 +36,39 @@ func (g *G) sendOut(s *Site) {
 // work is seen, unless they are in a handler of HTTP that hasn't begun to answer.
 func (g *G) takeIn(s *Site) {
 	g.takeSent(s)
+	latest := lastWork
 	for h := range adopted {
-		if h != g && !h.silent && (atomic.LoadUint32(&h.didMore) != 0 || h.epoch != h.joined) {
-			atomic.StoreUint32(&h.didMore, 0)
-			g.acquire(h.release(s), s)
-			h.joined = h.epoch
+		if h == g {
+			continue
+		}
+		if !h.silent && (atomic.LoadUint32(&h.didMore) != 0 || h.epoch != h.joined) {
+			h.showWork(s)
+		}
+		if h.work > g.worked {
+			g.acquire(h.work, s)
+		}
+		if h.work > latest {
+			latest = h.work
 		}
 	}
+	if lastWork > g.worked {
+		g.acquire(lastWork, s)
+	}
+	g.worked = latest
+}
+
+// showWork has the lock: what h did so far comes before what whoever takes it in does next.
+func (h *G) showWork(s *Site) {
+	atomic.StoreUint32(&h.didMore, 0)
+	h.work = h.release(s)
+	h.joined = h.epoch
+}
+
+// leaveWork has the lock: h has ended, and what it did is one with what others did that have.
+func (h *G) leaveWork() {
+	h.acquire(lastWork, nowhere)
+	h.showWork(nowhere)
+	lastWork = h.work
 }
 
 // takeSent has the lock. Of each goroutine the last write counts, behind those before it.
@@ -54,7 +85,7 @@ func (g *G) takeSent(s *Site) {
 	g.taken = newest
 }
 
-// Out is a file or a connection that is written to.
+// Out is a file or a connection that is written to, or a connection or a listener that is closed.
 func Out[T any](w T, s *Site) T {
 	if !off {
 		g := current(s)
@@ -63,6 +94,31 @@ func Out[T any](w T, s *Site) T {
 		mu.Unlock()
 	}
 	return w
+}
+
+// Closes is something that is closed: a connection or a pipe, perhaps.
+func Closes[T any](c T, s *Site) T {
+	if to := outletOf(reflect.ValueOf(c)); to != "" && to != "*os.File" {
+		Out(c, s)
+	}
+	return c
+}
+
+// Accepts is a listener that waits for a connection, or to be closed.
+func Accepts[T any](l T, s *Site) T {
+	if !off {
+		current(s).isReading()
+	}
+	return l
+}
+
+// Serves is a handler of HTTP that is called. One that gives another handler a time limit has it do
+// its work in another goroutine, and waits for it.
+func Serves[T any](h T, s *Site) T {
+	if t := reflect.TypeOf(h); !off && t != nil && t.String() == "*http.timeoutHandler" {
+		current(s).isReading()
+	}
+	return h
 }
 
 // Handler is called where a handler of HTTP begins, and what it returns where that ends.
@@ -118,6 +174,22 @@ func Ask(f func(), s *Site) func() {
 	return func() {
 		defer cross(s)()
 		f()
+	}
+}
+
+// Awaits is a function that waits for what goroutines of the standard library do, and answers one value.
+func Awaits[R any](f func() R, s *Site) func() R {
+	return func() R {
+		defer cross(s)()
+		return f()
+	}
+}
+
+// Awaits2 is one that answers a value and an error.
+func Awaits2[R any](f func() (R, error), s *Site) func() (R, error) {
+	return func() (R, error) {
+		defer cross(s)()
+		return f()
 	}
 }
 

@@ -44,7 +44,9 @@ type G struct {
 	reading bool   // it was about to read a file or a connection
 	lastOut uint32 // the order of its last write to a file or a connection
 	taken   uint32 // the newest order of sentOut that it is behind
-	joined  uint32 // the epoch up to which others are behind it
+	joined  uint32 // the epoch up to which others may be behind it
+	work    uint32 // the order of what it did up to there
+	worked  uint32 // the newest order of others' work that it is behind
 
 	loops [loopsKept]byteLoop
 	key   stackKey // the last one that atClaimed found, and that its loop hasn't
@@ -170,6 +172,7 @@ func (t *tag) ended() {
 	delete(adopted, t.of)
 	delete(goingOn, t.of)
 	if t.of.part == part {
+		t.of.leaveWork()
 		t.of.note(wire.Exit, 0, nowhere)
 	}
 	t.of.g = 0
@@ -194,6 +197,9 @@ func Go(s *Site, f func()) {
 		runtime.Gosched()
 	}
 }
+
+// Never is what a go statement that isn't reached would start. A function with one isn't inlined.
+func Never() {}
 
 func start(s *Site) *G {
 	starter := current(s)

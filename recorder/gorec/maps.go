@@ -52,6 +52,31 @@ func (x Mapping[K, V]) pointer() unsafe.Pointer {
 	return *(*unsafe.Pointer)(unsafe.Pointer(&x.m))
 }
 
+// MappingAt is a map that is read once the key and the value have been evaluated.
+type MappingAt[K comparable, V any] struct {
+	p       *map[K]V
+	read, s *Site
+}
+
+// MapAt is what Map is, of the map at p.
+func MapAt[M ~map[K]V, K comparable, V any](p *M, read, s *Site) MappingAt[K, V] {
+	return MappingAt[K, V]{(*map[K]V)(unsafe.Pointer(p)), read, s}
+}
+
+func (x MappingAt[K, V]) mapping() Mapping[K, V] { return Map(Read(x.p, x.read), x.s) }
+
+// Get is m[k].
+func (x MappingAt[K, V]) Get(k K) V { return x.mapping().Get(k) }
+
+// Lookup is v, ok = m[k].
+func (x MappingAt[K, V]) Lookup(k K) (V, bool) { return x.mapping().Lookup(k) }
+
+// Set is m[k] = v.
+func (x MappingAt[K, V]) Set(k K, v V) { x.mapping().Set(k, v) }
+
+// At is m[k] where it is assigned to.
+func (x MappingAt[K, V]) At(k K) Element[K, V] { return x.mapping().At(k) }
+
 // Get is m[k].
 func (x Mapping[K, V]) Get(k K) V {
 	v, _ := x.Lookup(k)

@@ -98,7 +98,11 @@ func forget() {
 	}
 	clearShadow()
 	lastAtomic, pooled = map[unsafe.Pointer]uint32{}, map[unsafe.Pointer]uint32{}
-	lastStores, sentOut, ends = map[syncMapKey]uint32{}, nil, nil
+	lastStores, sentOut, ends, lastWork = map[syncMapKey]uint32{}, nil, nil, 0
+	callbacks = map[callback]uint32{}
+	for h := range adopted {
+		h.work = 0
+	}
 	for p, l := range locks {
 		if !l.held && l.readers == 0 {
 			l.forgotten = true

@@ -79,12 +79,12 @@ func ReflectedMap(v reflect.Value, change bool, s *Site) reflect.Value {
 // walk follows what a function of the standard library finds behind a value.
 type walk struct {
 	user
-	deep    bool // pointers are followed wherever they stand
-	settle  bool // nothing is recorded, but it is known what each location holds
-	fill    bool // what changed since, unrecorded, was written by the function
-	encode  bool // what methods of their own encode, and unexported fields, are left out
-	left    int  // so many values more
-	behind  int  // and so many elements more behind the ends of slices
+	deep    bool   // pointers are followed wherever they stand
+	settle  bool   // nothing is recorded, but it is known what each location holds
+	fill    bool   // what changed since, unrecorded, was written by the function
+	by      *coder // what methods of their own encode, and unexported fields, are left out
+	left    int    // so many values more
+	behind  int    // and so many elements more behind the ends of slices
 	visited map[unsafe.Pointer]bool
 }
 
@@ -98,10 +98,10 @@ func Shown[T any](v T, s *Site) T {
 }
 
 // Encoded is a value that a function as json.Marshal reads, behind pointers too: what its methods
-// and exported fields say.
-func Encoded[T any](v T, s *Site) T {
+// and exported fields say. The coder is "json", "xml" or "gob".
+func Encoded[T any](v T, coder string, s *Site) T {
 	if !alone() {
-		walkAll(&walk{deep: true, encode: true}, v, s)
+		walkAll(&walk{deep: true, by: coders[coder]}, v, s)
 	}
 	return v
 }
@@ -128,6 +128,17 @@ func Fills(f func(any) error, s *Site) func(any) error {
 // Fills2 is a function as json.Unmarshal, which writes what its second argument points to.
 func Fills2[A any](f func(A, any) error, s *Site) func(A, any) error {
 	return func(a A, v any) error { return fillBy(v, s, func() error { return f(a, v) }) }
+}
+
+// Fills3 is binary.Read, which reads from its first argument and writes what its third points to.
+func Fills3[A, B any](f func(A, B, any) error, s *Site) func(A, B, any) error {
+	return func(a A, b B, v any) error {
+		again := stillReading()
+		return fillBy(v, s, func() error {
+			defer again()
+			return f(a, b, v)
+		})
+	}
 }
 
 // filling is the number of functions that are filling: meanwhile each write has the lock, so
@@ -181,7 +192,7 @@ func (w *walk) value(v reflect.Value, depth int) {
 		}
 	case reflect.Struct:
 		for i := 0; i < v.NumField(); i++ {
-			if !w.encode || isEncoded(v.Type().Field(i)) {
+			if w.by == nil || w.by.encodes(v.Type().Field(i)) {
 				w.value(v.Field(i), depth+1)
 			}
 		}
@@ -199,47 +210,27 @@ func (w *walk) saysItself(v reflect.Value) bool {
 	if path := v.Type().PkgPath(); path == "sync" || path == "sync/atomic" {
 		return true
 	}
-	if w.encode {
-		return encodesItself(v)
+	if w.by != nil {
+		return w.by.leaves(v)
+	}
+	if w.settle || w.fill {
+		return false
 	}
 	switch v.Interface().(type) {
-	case error, fmt.Stringer, fmt.Formatter:
+	case error, fmt.Stringer, fmt.Formatter, fmt.GoStringer:
 		return true
 	}
 	return false
 }
 
-// encodesItself reports whether a function as json.Marshal calls a method of the value, or of a
-// pointer to where it stands.
-func encodesItself(v reflect.Value) bool {
-	for _, m := range marshalers {
-		if v.Type().Implements(m) || v.CanAddr() && reflect.PointerTo(v.Type()).Implements(m) {
-			return true
-		}
-	}
-	return false
-}
-
-var marshalers = []reflect.Type{
-	typeOf[interface{ MarshalJSON() ([]byte, error) }](), typeOf[interface{ MarshalText() ([]byte, error) }](),
-	typeOf[interface{ MarshalBinary() ([]byte, error) }](), typeOf[interface{ GobEncode() ([]byte, error) }](),
-}
-
-func typeOf[T any]() reflect.Type { return reflect.TypeOf((*T)(nil)).Elem() }
-
-// isEncoded reports whether a function as json.Marshal may look at a field.
-func isEncoded(f reflect.StructField) bool {
-	return (f.IsExported() || f.Anonymous) && f.Tag.Get("json") != "-" && f.Tag.Get("xml") != "-"
-}
-
 // look reads what a pointer or an element leads to: to encode a struct, its fields that are encoded.
 func (w *walk) look(v reflect.Value) {
 	switch {
-	case !w.encode || v.Kind() != reflect.Struct:
+	case w.by == nil || v.Kind() != reflect.Struct:
 		w.access(v)
 	case !w.saysItself(v):
 		for i := 0; i < v.NumField(); i++ {
-			if isEncoded(v.Type().Field(i)) {
+			if w.by.encodes(v.Type().Field(i)) {
 				w.look(v.Field(i))
 			}
 		}

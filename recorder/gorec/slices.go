@@ -76,6 +76,27 @@ func (x Appended[S, E]) Append(values ...E) S {
 // AppendAll appends a slice's elements, which are read.
 func (x Appended[S, E]) AppendAll(values []E) S { return x.Append(Elements(values, x.s)...) }
 
+// AppendedAt is a slice that is read once the values to append have been evaluated.
+type AppendedAt[S ~[]E, E any] struct {
+	p       *S
+	read, s *Site
+}
+
+// AppendAt is what AppendTo is, of the slice at p.
+func AppendAt[S ~[]E, E any](p *S, read, s *Site) AppendedAt[S, E] {
+	return AppendedAt[S, E]{p, read, s}
+}
+
+// Append appends.
+func (x AppendedAt[S, E]) Append(values ...E) S {
+	return AppendTo(Read(x.p, x.read), x.s).Append(values...)
+}
+
+// AppendAll appends a slice's elements, which are read.
+func (x AppendedAt[S, E]) AppendAll(values []E) S {
+	return AppendTo(Read(x.p, x.read), x.s).AppendAll(values)
+}
+
 // Elements reads the elements of a slice.
 func Elements[S ~[]E, E any](a S, s *Site) S {
 	readAtEnds(a, len(a), s)

@@ -5,19 +5,13 @@ import (
 	"sort"
 )
 
-// Sorts is a function that sorts a slice in one step, by reading and writing its elements.
+// Sorts is a function as sort.Ints.
 func Sorts[E any](f func([]E), s *Site) func([]E) {
-	return func(a []E) {
-		if alone() {
-			f(a)
-			return
-		}
-		o := current(s).at(s)
-		readElements(o, a)
-		f(a)
-		writeElements(o, a)
-	}
+	return func(a []E) { SliceSort(s, f, a) }
 }
+
+// SortOwn is the method Sort of one of package sort's own types.
+func SortOwn(x sort.Interface, s *Site) { sort.Sort(Sortable(x, s)) }
 
 // SortSlice is sort.Slice. What less reads is recorded where it stands.
 func SortSlice(x any, less func(i, j int) bool, s *Site) {

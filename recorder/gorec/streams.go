@@ -19,22 +19,26 @@ var outlets = map[string]bool{
 var passing = map[string][]string{
 	"*bufio.Reader": {"rd"}, "*bufio.Writer": {"wr"}, "*bufio.Scanner": {"r"}, "*csv.Reader": {"r"}, "*csv.Writer": {"w"},
 	"*json.Decoder": {"r", "dec.s.rd"}, "*json.Encoder": {"w"}, "*tabwriter.Writer": {"output"},
+	"*gob.Decoder": {"r"}, "*gob.Encoder": {"w"}, "*xml.Decoder": {"r"}, "*xml.Encoder": {"p.Writer", "p.w"},
 }
 
-// leadsOut reports whether a Reader or a Writer is a file or a connection, or stands before one.
-func leadsOut(v reflect.Value) bool {
+// outletOf is the file's or the connection's type that a Reader or a Writer is of, or that it
+// stands before, or "".
+func outletOf(v reflect.Value) string {
 	for {
 		for v.IsValid() && v.Kind() == reflect.Interface {
 			v = v.Elem()
 		}
 		if !v.IsValid() || v.Kind() != reflect.Pointer || v.IsNil() {
-			return false
+			return ""
 		}
 		t := v.Type().String()
 		if outlets[t] {
-			return true
+			return t
 		}
-		v = before(v, passing[t])
+		if v = before(v, passing[t]); v.Kind() == reflect.Slice && v.Len() > 0 { // of a gob.Encoder
+			v = v.Index(0)
+		}
 	}
 }
 
@@ -57,7 +61,7 @@ func before(v reflect.Value, ways []string) (to reflect.Value) {
 
 // StreamOut is a Writer that is used.
 func StreamOut[T any](w T, s *Site) T {
-	if !off && leadsOut(reflect.ValueOf(w)) {
+	if !off && outletOf(reflect.ValueOf(w)) != "" {
 		Out(w, s)
 	}
 	return Stream(w, s)
@@ -67,7 +71,7 @@ func StreamOut[T any](w T, s *Site) T {
 // next.
 func StreamIn[T any](r T, s *Site) T {
 	Stream(r, s)
-	if !off && leadsOut(reflect.ValueOf(r)) {
+	if !off && outletOf(reflect.ValueOf(r)) != "" {
 		current(s).isReading()
 	}
 	return r

@@ -25,6 +25,7 @@ func (x SyncMapAt) do(k any, f func() int) {
 		key := syncMapKey{x.m, k}
 		if what&loads != 0 {
 			g.acquire(lastStores[key], x.s)
+			g.acquire(lastStores[syncMapKey{x.m, cleared{}}], x.s)
 		}
 		if what&stores != 0 {
 			lastStores[key] = g.release(x.s)
@@ -58,6 +59,39 @@ func (x SyncMapAt) LoadAndDelete(k any) (v any, loaded bool) {
 // Delete is that of the map.
 func (x SyncMapAt) Delete(k any) {
 	x.do(k, func() int { x.m.Delete(k); return loads | stores })
+}
+
+// newerMap has what a sync.Map has since Go 1.20.
+type newerMap interface {
+	Swap(k, v any) (previous any, loaded bool)
+	CompareAndSwap(k, old, v any) bool
+	CompareAndDelete(k, old any) bool
+}
+
+// Swap is that of the map.
+func (x SyncMapAt) Swap(k, v any) (previous any, loaded bool) {
+	x.do(k, func() int { previous, loaded = any(x.m).(newerMap).Swap(k, v); return loads | stores })
+	return previous, loaded
+}
+
+// CompareAndSwap is that of the map.
+func (x SyncMapAt) CompareAndSwap(k, old, v any) (ok bool) {
+	x.do(k, func() int { ok = any(x.m).(newerMap).CompareAndSwap(k, old, v); return swapped(ok) })
+	return ok
+}
+
+// CompareAndDelete is that of the map.
+func (x SyncMapAt) CompareAndDelete(k, old any) (ok bool) {
+	x.do(k, func() int { ok = any(x.m).(newerMap).CompareAndDelete(k, old); return swapped(ok) })
+	return ok
+}
+
+// cleared stands for all keys.
+type cleared struct{}
+
+// Clear is that of the map since Go 1.23, which comes before each later look-up.
+func (x SyncMapAt) Clear() {
+	x.do(cleared{}, func() int { any(x.m).(interface{ Clear() }).Clear(); return stores })
 }
 
 // Range finds each key that it visits.

@@ -20,12 +20,16 @@ func follow(s *Site) {
 	mu.Unlock()
 }
 
-// Test is called where a test begins; what it answers, where it ends.
-func Test(s *Site) func() {
+// Test is called where a test begins, which is handed over if it has a name; what it answers, where it
+// ends.
+func Test(s *Site, test ...any) func() {
 	if off {
 		return func() {}
 	}
 	follow(s)
+	for _, t := range test {
+		followTest(t, s)
+	}
 	return func() { end(s) }
 }
 
@@ -43,7 +47,7 @@ func end(s *Site) {
 // Subtest is the function of a subtest.
 func Subtest[T any](f func(T), s *Site) func(T) {
 	return func(t T) {
-		defer Test(s)()
+		defer Test(s, t)()
 		f(t)
 	}
 }

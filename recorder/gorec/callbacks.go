@@ -1,0 +1,88 @@
+package gorec
+
+import (
+	"runtime"
+	"strings"
+	"sync/atomic"
+	"unsafe"
+)
+
+// Some packages of the standard library call methods of the program's one after another, whichever
+// goroutine it is that they do so for: log has a lock round each Write, database/sql uses a connection for one
+// goroutine at a time, and net/http reads a connection in two. What orders these calls is theirs, so each call
+// is written behind the one before it.
+
+// callback is what such calls have in common: the package, and the object where it has one for each.
+type callback struct {
+	by     string
+	object unsafe.Pointer
+}
+
+// callbacks have the orders of the last calls' ends.
+var callbacks = map[callback]uint32{}
+
+// callers are the packages, and whether calls for one object follow one another alone.
+var callers = map[string]bool{"log": true, "log/slog": true, "net/http": true, "database/sql": false}
+
+// callerOf has the packages by the places that call: a map that another one replaces, so that it is
+// read without the lock.
+var callerOf atomic.Value
+
+// Called is called where a method of an object begins that the standard library may call, and what it
+// returns where that ends.
+func Called[T any](object *T, s *Site) func() { return calledBack(unsafe.Pointer(object), s) }
+
+// CalledOn is Called of a method of values.
+func CalledOn(s *Site) func() { return calledBack(nil, s) }
+
+func calledBack(object unsafe.Pointer, s *Site) func() {
+	if alone() {
+		return func() {}
+	}
+	var at [2]uintptr
+	runtime.Callers(4, at[:]) // behind Callers, calledBack, Called and the method
+	by := packageAt(at)
+	each, known := callers[by]
+	if !known {
+		return func() {}
+	}
+	if !each {
+		object = nil
+	}
+	k, g := callback{by, object}, current(s)
+	begin()
+	g.acquire(callbacks[k], s)
+	mu.Unlock()
+	return func() {
+		g := current(s)
+		begin()
+		callbacks[k] = g.release(s)
+		mu.Unlock()
+	}
+}
+
+// packageAt is the package that calls there.
+func packageAt(at [2]uintptr) string {
+	if by, known := knownCallers()[at]; known {
+		return by
+	}
+	f, _ := runtime.CallersFrames(at[:]).Next()
+	folder := strings.LastIndex(f.Function, "/") + 1
+	by := f.Function
+	if dot := strings.Index(by[folder:], "."); dot >= 0 {
+		by = by[:folder+dot]
+	}
+	begin()
+	defer mu.Unlock()
+	more := map[[2]uintptr]string{at: by}
+	for k, v := range knownCallers() {
+		more[k] = v
+	}
+	callerOf.Store(more)
+	return by
+}
+
+func knownCallers() map[[2]uintptr]string {
+	known, _ := callerOf.Load().(map[[2]uintptr]string)
+	return known
+}

@@ -6,6 +6,7 @@ import (
 	"strings"
 	"testing"
 
+	"gorace.local/recorder/internal/instrument"
 	"gorace.local/recorder/internal/trace"
 )
 
@@ -83,7 +84,7 @@ races: 3
 	}
 	var b strings.Builder
 	o.explain(&b)
-	tell(&b, o.summary, map[string]int{"flag.Var": 2})
+	tell(&b, o.summary, &instrument.Program{Missed: map[string]int{"flag.Var": 2}})
 	want := `pairs of places: 2
      2  read at a.go:9, write at a.go:3
      1  read at a.go:4, write at a.go:5

@@ -8,6 +8,7 @@ import (
 	"strconv"
 	"strings"
 
+	"gorace.local/recorder/internal/instrument"
 	"gorace.local/recorder/internal/trace"
 )
 
@@ -166,16 +167,20 @@ func lastBefore(starts []trace.Start, event int) *trace.Start {
 }
 
 // tell writes what the trace hasn't, and last where it is cut off.
-func tell(w io.Writer, s *trace.Summary, missed map[string]int) {
-	line := s.Losses()
-	if len(missed) > 0 {
-		if line != "" {
-			line += "; "
-		}
-		line += "not recorded is what these calls do with what their arguments point at: " + listed(missed)
+func tell(w io.Writer, s *trace.Summary, p *instrument.Program) {
+	var lacks []string
+	if n := len(p.Refused); n > 0 {
+		first, _, _ := strings.Cut(p.Refused[0], ": ")
+		lacks = append(lacks, fmt.Sprintf("%s can't be recorded, so reports may be false (%s)", places(n), first))
 	}
-	if line != "" {
-		fmt.Fprintln(w, "gorec: "+line)
+	if losses := s.Losses(); losses != "" {
+		lacks = append(lacks, losses)
+	}
+	if len(p.Missed) > 0 {
+		lacks = append(lacks, "not recorded is what these calls do with what their arguments point at: "+listed(p.Missed))
+	}
+	if len(lacks) > 0 {
+		fmt.Fprintln(w, "gorec: "+strings.Join(lacks, "; "))
 	}
 	if s.Cut != "" {
 		fmt.Fprintf(w, "gorec: the trace is cut off after %d events: %s\n", s.Events, s.Cut)

@@ -46,7 +46,7 @@ func (r *recording) run(k *process.Keeper, args []string) (int, error) {
 	}
 	name := fileName(p.ImportPath, false)
 	if strings.HasSuffix(args[0], ".go") {
-		name = strings.TrimSuffix(filepath.Base(args[0]), ".go")
+		name = filepath.Base(p.Dir) + "_" + strings.TrimSuffix(filepath.Base(args[0]), ".go")
 	}
 	t := &target{Program: p, copied: copied, name: name, file: filepath.Join(s.folder.path, "program"), words: args[n:]}
 	if err := p.Build(k.Run, t.file, false); err != nil {

@@ -43,6 +43,7 @@ type judging struct {
 	told     map[string]bool // what races at which places
 	ends     map[string]int  // why segments ended that others follow
 	cut      string          // why one ended that none follows
+	noted    time.Time       // when a segment without another race was noted last
 
 	forgotten int // variables that one goroutine alone had used
 
@@ -186,7 +187,7 @@ func (j *judging) judgeSegment(s *trace.Segments, command []string, options trac
 		j.told[predicted+r.places()] = true
 	}
 	if only {
-		tell(j.c.out, o.summary, j.t.Missed)
+		tell(j.c.out, o.summary, j.t.Program)
 	}
 	j.add(o, s.GoesOn() || !s.More() && follows)
 	return nil
@@ -236,24 +237,31 @@ func (j *judging) traceOf() (f *os.File, path string, done func(), err error) {
 	}, nil
 }
 
+// noteEach is the time between notes of segments that have no other race than those before.
+const noteEach = 10 * time.Second
+
 // askBeside has one of several segments judged.
 func (j *judging) askBeside(command []string, path string, o *outcome) error {
 	var report bytes.Buffer
 	if err := j.judge.ask(j.keeper, command, path, &report, j.c.notes, o); err != nil {
 		return err
 	}
-	fmt.Fprintf(j.c.notes, "gorec: segment %d: %s\n", j.segments, o.summary.Counts())
-	first, _, _ := strings.Cut(report.String(), "\n")
-	switch {
-	case o.status == 0:
-		fmt.Fprintf(j.c.notes, "gorec: segment %d: %s\n", j.segments, first)
-	case len(o.all()) > 0 && !j.isNew(o):
-		fmt.Fprintf(j.c.notes, "gorec: segment %d: %d races, at places that were reported before\n", j.segments, len(o.all()))
-	default:
-		_, err := report.WriteTo(j.c.out)
-		return err
+	known := o.status == 0
+	result, _, _ := strings.Cut(report.String(), "\n")
+	if len(o.all()) > 0 && !j.isNew(o) {
+		known, result = true, "only races at places that were reported before"
 	}
-	return nil
+	if known && time.Since(j.noted) < noteEach {
+		return nil
+	}
+	fmt.Fprintf(j.c.notes, "gorec: segment %d: %s\n", j.segments, o.summary.Counts())
+	if known {
+		j.noted = time.Now()
+		fmt.Fprintf(j.c.notes, "gorec: segment %d: %s\n", j.segments, result)
+		return nil
+	}
+	_, err := report.WriteTo(j.c.out)
+	return err
 }
 
 // add adds a segment to what is known of the run; followed says that another one goes on where
@@ -297,7 +305,7 @@ func (j *judging) tell() {
 	if j.predict {
 		fmt.Fprintf(j.c.out, "gorec: of all traces predicted: %d, not searched: %d variables\n", len(j.o.predicted), j.o.notSearched)
 	}
-	tell(j.c.out, j.o.summary, j.t.Missed)
+	tell(j.c.out, j.o.summary, j.t.Program)
 	var reasons []string
 	for reason, n := range j.ends {
 		reasons = append(reasons, fmt.Sprintf("%s (%d)", reason, n))

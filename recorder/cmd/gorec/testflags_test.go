@@ -42,15 +42,15 @@ func TestTestWords(t *testing.T) {
 // TestIsNote: what a package's output says of the recording is a note, but what it says of each.
 func TestIsNote(t *testing.T) {
 	for line, want := range map[string]bool{
-		"gorec: 38 events of 45 records; goroutines 7 of 7":                                            false,
-		"gorec: segment 1: 38 events of 45 records":                                                    false,
-		"gorec: run 1 of at most 3, with seed 5":                                                       false,
-		"gorec: 3 tests began in package testing, which isn't recorded (a.go:1)":                       false,
-		"gorec: 3 tests began in package testing, which isn't recorded (a.go:1); 1 channel is used":    true,
-		"gorec: 1 goroutine was started by code that isn't recorded, so races with them may be missed": true,
-		"gorec: not recorded is what these calls do with what their arguments point at: bytes.Equal":   true,
-		"gorec: judged in 2 segments, 0 of them with races":                                            true,
-		"gorec: there was no room for all variables: 5 times one was forgotten":                        true,
+		"gorec: 38 events of 45 records; goroutines 7 of 7":                                                                        false,
+		"gorec: segment 1: 38 events of 45 records":                                                                                false,
+		"gorec: run 1 of at most 3, with seed 5":                                                                                   false,
+		"gorec: 3 tests were started by package testing, so races with what came before may be missed (a.go:1)":                    false,
+		"gorec: 3 tests were started by package testing, so races with what came before may be missed (a.go:1); 1 channel is used": true,
+		"gorec: 1 goroutine was started by code that isn't recorded, so races with them may be missed":                             true,
+		"gorec: not recorded is what these calls do with what their arguments point at: bytes.Equal":                               true,
+		"gorec: judged in 2 segments, 0 of them with races":                                                                        true,
+		"gorec: there was no room for all variables: 5 times one was forgotten":                                                    true,
 		"PASS": false,
 	} {
 		if got := isNote.MatchString("a\n" + line + "\nb\n"); got != want {

@@ -165,8 +165,8 @@ func (c *testRun) quiet(p *instrument.Program, name, folder string, to io.Writer
 }
 
 // isNote matches what gorec says of a package, but how many records and events there are, and that
-// tests began in package testing, as all do.
-var isNote = regexp.MustCompile(`(?m)^gorec: ([^rs\d]|\d+ [^et]|.* began in package testing, .*; )`)
+// package testing started its tests, as it does all.
+var isNote = regexp.MustCompile(`(?m)^gorec: ([^rs\d]|\d+ [^et]|.* started by package testing, .*; )`)
 
 // told tests a package, which has a line also where it can't be judged.
 func (c *testRun) told(p *instrument.Program, name, folder string, out *console) (int, error) {

@@ -6,6 +6,7 @@ import (
 	"fmt"
 	"os"
 
+	"gorace.local/recorder/internal/instrument"
 	"gorace.local/recorder/internal/process"
 	"gorace.local/recorder/internal/sites"
 	"gorace.local/recorder/internal/trace"
@@ -53,6 +54,6 @@ func printTrace(path, sitesPath string, options trace.Options) error {
 		return err
 	}
 	fmt.Fprintln(os.Stderr, "gorec: "+summary.Counts())
-	tell(os.Stderr, summary, nil)
+	tell(os.Stderr, summary, &instrument.Program{})
 	return nil
 }

@@ -179,8 +179,9 @@ func (t *tree) add(p *load.Package) error {
 	t.results[p.ImportPath] = append(t.results[p.ImportPath], result)
 	t.early = append(t.early, result.Early...)
 	for i, text := range result.Files {
-		text = placed(text, p.Fset.File(p.Files[i].Pos()).Name())
-		if err := os.WriteFile(filepath.Join(to, filepath.Base(p.GoFiles[i])), []byte(text), 0o644); err != nil {
+		name, text := copyOf(p, filepath.Base(p.GoFiles[i]), text)
+		text = placed(text, p.Fset.File(p.Files[i].Pos()).Name(), false)
+		if err := os.WriteFile(filepath.Join(to, name), []byte(text), 0o644); err != nil {
 			return err
 		}
 	}
@@ -191,13 +192,17 @@ func (t *tree) add(p *load.Package) error {
 var relativeLine = regexp.MustCompile(`^//line ([^/:\s][^:\n]*)(:\d+(:\d+)?)$`)
 
 // placed is a source that tells where it was copied from, so that panics, runtime.Caller and
-// profiles name the program's own file.
-func placed(text, file string) string {
+// profiles name the program's own file: behind the package clause, or at the top where cgo would
+// take a comment there for its own.
+func placed(text, file string, atTop bool) string {
 	files := token.NewFileSet()
 	source := files.AddFile(file, files.Base(), len(text))
 	var tokens scanner.Scanner
 	tokens.Init(source, []byte(text), nil, scanner.ScanComments)
-	placed, done, isTold := "", 0, false
+	placed, done, isTold := "", 0, atTop
+	if atTop {
+		placed = fmt.Sprintf("//line %s:1\n", file)
+	}
 	code := 0 // the end of the last token; where a scanner sets the newline behind it differs from Go to Go
 	for pos, tok, literal := tokens.Scan(); tok != token.EOF; pos, tok, literal = tokens.Scan() {
 		at := source.Offset(pos)
@@ -273,7 +278,10 @@ func copyFiles(p *load.Package, to string) error {
 			return err
 		}
 		if filepath.Ext(name) == ".go" && filepath.Dir(name) == "." {
-			b = []byte(placed(string(b), filepath.Join(p.Dir, name)))
+			file := filepath.Join(p.Dir, name)
+			var text string
+			name, text = copyOf(p, name, string(b))
+			b = []byte(placed(text, file, true))
 		}
 		if err := writeFile(filepath.Join(to, name), b); err != nil {
 			return err

@@ -34,8 +34,15 @@ type Module struct {
 	Main                 bool
 }
 
-// PackageError is why go list can't load a package.
-type PackageError struct{ Err string }
+// PackageError is why go list can't load a package, and the place of the import.
+type PackageError struct{ Pos, Err string }
+
+func (e *PackageError) Error() string {
+	if e.Pos == "" {
+		return e.Err
+	}
+	return e.Pos + ": " + e.Err
+}
 
 // A Program is what can be built of the packages: a package main, or the tests of a package.
 type Program struct {
@@ -54,7 +61,8 @@ func list(args []string, tolerant bool, run func(*exec.Cmd) error) ([]*Listed, e
 	}
 	cmd := exec.Command("go", append(words, args...)...)
 	var out bytes.Buffer
-	cmd.Stdout, cmd.Stderr = &out, os.Stderr
+	errs := &complaints{to: os.Stderr, printed: map[string]bool{}}
+	cmd.Stdout, cmd.Stderr = &out, errs
 	err := run(cmd)
 	var ended *exec.ExitError
 	if err != nil && !(tolerant && errors.As(err, &ended) && out.Len() > 0) {
@@ -115,12 +123,12 @@ func tests(all []*Listed) []*Program {
 		switch of := made[l.ImportPath+".test"]; {
 		case l.Error != nil:
 			p.Broken = failed(l.Error.Err)
-			fmt.Fprintln(os.Stderr, l.Error.Err)
+			fmt.Fprintln(os.Stderr, l.Error)
 		case !p.HasTests:
 		case of == nil || len(of.DepsErrors) > 0 || of.Error != nil:
 			p.Broken = "setup failed"
 			if of != nil && len(of.DepsErrors) > 0 {
-				fmt.Fprintln(os.Stderr, of.DepsErrors[0].Err)
+				fmt.Fprintln(os.Stderr, of.DepsErrors[0])
 			}
 		case of.Export == "":
 			p.Broken = "build failed"

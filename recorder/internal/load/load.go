@@ -142,6 +142,33 @@ func (p *Package) check(exports map[string]string) error {
 	conf := types.Config{Importer: importer.ForCompiler(p.Fset, "gc", lookup)}
 	var err error
 	p.Types, err = conf.Check(p.ImportPath, p.Fset, p.Files, p.Info)
+	if err != nil && strings.Contains(err.Error(), aliasesOff) {
+		conf.Importer = importer.ForCompiler(p.Fset, "gc", lookup)
+		err = withAliases(func() (err error) {
+			p.Types, err = conf.Check(p.ImportPath, p.Fset, p.Files, p.Info)
+			return err
+		})
+	}
+	return err
+}
+
+// aliasesOff is what go/types answers of an alias with type parameters, unless it keeps aliases as
+// types of their own. It does so for the packages alone that have such ones: the recorder asks what
+// a type is, and not by which name.
+const aliasesOff = "generic type alias requires GODEBUG=gotypesalias=1"
+
+// withAliases does something while go/types keeps aliases.
+func withAliases(do func() error) error {
+	before, isSet := os.LookupEnv("GODEBUG")
+	if err := os.Setenv("GODEBUG", strings.TrimPrefix(before+",gotypesalias=1", ",")); err != nil {
+		return err
+	}
+	err := do()
+	if isSet {
+		os.Setenv("GODEBUG", before)
+	} else {
+		os.Unsetenv("GODEBUG")
+	}
 	return err
 }
 
@@ -154,6 +181,13 @@ func (p *Package) IterationVariables() bool {
 // NewToolchain reports whether the command go gives loops variables of each iteration, unless a
 // module's go line is older.
 func (p *Package) NewToolchain() bool { return isFrom22(strings.TrimPrefix(p.Toolchain, "go")) }
+
+// InlinesBadly reports whether the compiler fails where it exports, to be inlined, a function with a
+// type parameter that stands for error and that another type is made of.
+func (p *Package) InlinesBadly() bool {
+	minor := minorOf(p.Toolchain)
+	return minor > 0 && minor < 20
+}
 
 func isFrom22(version string) bool {
 	var major, minor int

@@ -22,8 +22,12 @@ func (r *rewriter) assign(s *ast.AssignStmt, inBlock bool) {
 		r.assignPlain(s)
 	case s.Tok == token.DEFINE:
 		r.redeclare(s)
+	case len(s.Lhs) == 1 && r.isLate(s):
+		r.assignLate(s, "Wrote")
 	case len(s.Lhs) == 1:
 		r.assignOne(s)
+	case inBlock && (r.isLate(s) || r.isManyNames(s) || r.isTwoOfLoose(s)):
+		r.assignSeveralLate(s)
 	default:
 		r.assignSeveral(s)
 	}
@@ -47,9 +51,17 @@ func (r *rewriter) assignsRecorded(s *ast.AssignStmt) bool {
 // assignPlain leaves an assignment one, and changes what its sides evaluate.
 func (r *rewriter) assignPlain(s *ast.AssignStmt) {
 	if s.Tok != token.DEFINE {
+		r.unitOf(func(u *unit) {
+			for _, e := range s.Lhs {
+				u.address(e)
+			}
+			u.values(s.Rhs)
+		})
 		for _, e := range s.Lhs {
 			r.address(e)
 		}
+	} else {
+		r.together(s.Rhs...)
 	}
 	r.rightSide(s)
 }
@@ -74,10 +86,10 @@ func (r *rewriter) assignOne(s *ast.AssignStmt) {
 	case x != nil && r.isLoose(x.X):
 		r.changeLoose(x, s.Rhs[0])
 	case x != nil:
-		site := r.site(s, r.name(x.X))
-		r.insert(s.Pos(), "gorec.Map(")
-		r.value(x.X)
-		r.replace(x.Lbrack, x.Lbrack+1, ", "+site+").Set(")
+		r.bare(s.Lhs[0], x)
+		r.together(x.X)
+		r.together(x.Index, s.Rhs[0])
+		r.mapping(x, s, "Set(", s.Rhs[0])
 		r.value(x.Index)
 		r.replace(x.Rbrack, x.Rbrack+1, ",")
 		r.replaceToken(s, "")
@@ -86,16 +98,26 @@ func (r *rewriter) assignOne(s *ast.AssignStmt) {
 	default:
 		l := s.Lhs[0]
 		site := r.locationSite(s, l)
-		r.wrap(l, "gorec.To(&", func() { r.address(l) }, ", "+site)
+		r.wrap(l, "gorec.To(&", func() { r.leftSide(l) }, ", "+site)
 		r.replaceToken(s, ").Set(")
-		r.value(s.Rhs[0])
+		r.alone(s.Rhs[0])
 		r.insert(s.End(), ")")
+	}
+}
+
+// bare drops the parentheses of e round x.
+func (r *rewriter) bare(e, x ast.Expr) {
+	if e != x {
+		r.replace(e.Pos(), x.Pos(), "")
+		r.replace(x.End(), e.End(), "")
 	}
 }
 
 // changeLoose records a change of a map with keys of an interface type.
 func (r *rewriter) changeLoose(x *ast.IndexExpr, values ...ast.Expr) {
 	r.noteEarly(x, append(values, x.Index)...)
+	r.together(x.X)
+	r.together(append(values, x.Index)...)
 	r.looseMap("WriteMap", x.X)
 	r.value(x.Index)
 	r.values(values)
@@ -104,6 +126,7 @@ func (r *rewriter) changeLoose(x *ast.IndexExpr, values ...ast.Expr) {
 // redeclare is a := of which some variables are new, and some are there and recorded.
 func (r *rewriter) redeclare(s *ast.AssignStmt) {
 	after := ""
+	var alike []ast.Expr
 	for i, e := range s.Lhs {
 		id := e.(*ast.Ident)
 		if id.Name == "_" || r.isNew(e, s.Tok) || !r.isRecorded(e) {
@@ -115,10 +138,16 @@ func (r *rewriter) redeclare(s *ast.AssignStmt) {
 		after += "; gorec.To(&" + id.Name + ", " + site + ").Set(" + v + ")"
 		if len(s.Rhs) == len(s.Lhs) {
 			r.insert(s.Rhs[i].Pos(), "gorec.Like(&"+id.Name+").Of(")
-			defer r.insert(s.Rhs[i].End(), ")")
+			alike = append(alike, s.Rhs[i])
 		}
 	}
+	if after == "" || len(s.Rhs) == 1 {
+		r.together(s.Rhs...)
+	}
 	r.rightSide(s)
+	for _, e := range alike {
+		r.insert(e.End(), ")")
+	}
 	r.insert(s.End(), after)
 }
 
@@ -133,6 +162,7 @@ func (r *rewriter) assignSeveral(s *ast.AssignStmt) {
 		r.oneOfSeveral(e)
 	}
 	r.replaceToken(s, ").Set(")
+	r.together(s.Rhs...)
 	if a, ok := unparen(s.Rhs[0]).(*ast.TypeAssertExpr); ok && isTwo(s) {
 		r.assertion(s, a)
 	} else {
@@ -176,10 +206,16 @@ func (r *rewriter) oneOfSeveral(e ast.Expr) {
 		r.insert(e.End(), ".To()")
 	case r.isRecorded(e):
 		site := r.locationSite(e, e)
-		r.wrap(e, "gorec.To(&", func() { r.address(e) }, ", "+site+")")
+		r.wrap(e, "gorec.To(&", func() { r.leftSide(e) }, ", "+site+")")
 	default:
-		r.wrap(e, "gorec.Plain(&", func() { r.address(e) }, ")")
+		r.wrap(e, "gorec.Plain(&", func() { r.leftSide(e) }, ")")
 	}
+}
+
+// leftSide changes the address of a left side, evaluated by itself.
+func (r *rewriter) leftSide(e ast.Expr) {
+	r.unitOf(func(u *unit) { u.address(e) })
+	r.address(e)
 }
 
 // assertion makes v, ok of a type assertion two arguments.
@@ -206,17 +242,18 @@ func (r *rewriter) increment(s *ast.IncDecStmt) {
 	case x != nil:
 		site := r.site(s, r.name(x.X))
 		r.insert(s.Pos(), "gorec.Counts(")
+		r.bare(s.X, x)
 		r.value(x.X)
 		r.replace(x.Lbrack, x.Lbrack+1, ", "+site+")."+method+"(")
 		r.value(x.Index)
 		r.replace(x.Rbrack, x.Rbrack+1, ")")
 		r.replace(s.TokPos, s.TokPos+2, "")
 	case !r.isRecorded(s.X):
-		r.address(s.X)
+		r.leftSide(s.X)
 	default:
 		site := r.locationSite(s, s.X)
 		r.insert(s.Pos(), "gorec."+method+"(&")
-		r.address(s.X)
+		r.leftSide(s.X)
 		r.replace(s.TokPos, s.TokPos+2, ", "+site+")")
 	}
 }
@@ -226,6 +263,8 @@ func (r *rewriter) operation(s *ast.AssignStmt, inBlock bool) {
 	l, e := s.Lhs[0], s.Rhs[0]
 	x := r.mapElement(l)
 	switch {
+	case (x != nil || r.isRecorded(l)) && r.isLate(s):
+		r.assignLate(s, "Changed")
 	case x != nil && r.isLoose(x.X):
 		r.changeLoose(x, e)
 	case x != nil:
@@ -234,9 +273,9 @@ func (r *rewriter) operation(s *ast.AssignStmt, inBlock bool) {
 		r.assignPlain(s)
 	case operators[s.Tok] != "":
 		site := r.locationSite(s, l)
-		r.wrap(l, "gorec."+operators[s.Tok]+"(&", func() { r.address(l) }, "")
+		r.wrap(l, "gorec."+operators[s.Tok]+"(&", func() { r.leftSide(l) }, "")
 		r.replaceToken(s, ", "+site+").By(")
-		r.value(e)
+		r.alone(e)
 		r.insert(s.End(), ")")
 	default:
 		r.shift(s, inBlock)
@@ -245,8 +284,11 @@ func (r *rewriter) operation(s *ast.AssignStmt, inBlock bool) {
 
 // mapOperation is m[k] op= e.
 func (r *rewriter) mapOperation(s *ast.AssignStmt, x *ast.IndexExpr, inBlock bool) {
-	if !inBlock {
-		r.refuse(s, "op= of an element of a map outside a list of statements", "put it before the statement")
+	if !inBlock && r.isRepeatable(x) {
+		r.assignLate(s, "Changed")
+		return
+	} else if !inBlock {
+		r.refuse(s, "op= of an element of a map that is called for, outside a list of statements", "put it before the statement")
 		r.assignPlain(s)
 		return
 	}
@@ -260,8 +302,11 @@ func (r *rewriter) mapOperation(s *ast.AssignStmt, x *ast.IndexExpr, inBlock boo
 
 // shift is x <<= e and x >>= e, whose right side has a type of its own.
 func (r *rewriter) shift(s *ast.AssignStmt, inBlock bool) {
-	if !inBlock {
-		r.refuse(s, s.Tok.String()+" outside a list of statements", "put it before the statement")
+	if !inBlock && r.isRepeatable(s.Lhs[0]) {
+		r.assignLate(s, "Changed")
+		return
+	} else if !inBlock {
+		r.refuse(s, s.Tok.String()+" of what is called for, outside a list of statements", "put it before the statement")
 		r.assignPlain(s)
 		return
 	}

@@ -50,6 +50,12 @@ func (r *rewriter) renameCall(e *ast.CallExpr, text string) {
 	r.replace(e.Fun.Pos(), e.Lparen+1, text)
 }
 
+// joinArguments drops what stands between two arguments, but for its ends of lines.
+func (r *rewriter) joinArguments(a, b ast.Expr) {
+	between := string(r.src[a.End()-r.start : b.Pos()-r.start])
+	r.replace(a.End(), b.Pos(), linesOf(between, ""))
+}
+
 func (r *rewriter) makeCall(e *ast.CallExpr) {
 	if !r.isChan(e) {
 		r.values(e.Args[1:])
@@ -71,7 +77,7 @@ func (r *rewriter) deleteCall(e *ast.CallExpr) {
 	r.renameCall(e, "gorec.Map(")
 	r.value(m)
 	r.insert(m.End(), ", "+s+").Delete(")
-	r.replace(m.End(), key.Pos(), "")
+	r.joinArguments(m, key)
 	r.value(key)
 }
 
@@ -101,15 +107,25 @@ func (r *rewriter) appendCall(e *ast.CallExpr) {
 		return
 	}
 	s := r.site(e, r.name(e.Args[0])+"_elem")
+	begin := "gorec.AppendTo("
+	if r.late[e] {
+		begin = "gorec.AppendAt("
+	}
 	method := "Append("
 	if spread {
 		method = "AppendAll("
 		r.replace(e.Ellipsis, e.Ellipsis+3, "")
 	}
-	r.renameCall(e, "gorec.AppendTo(")
-	r.value(e.Args[0])
+	r.renameCall(e, begin)
+	if r.late[e] {
+		r.insert(e.Args[0].Pos(), "&")
+		r.address(e.Args[0])
+		r.insert(e.Args[0].End(), ", "+r.locationSite(e.Args[0], e.Args[0]))
+	} else {
+		r.value(e.Args[0])
+	}
 	r.insert(e.Args[0].End(), ", "+s+")."+method)
-	r.replace(e.Args[0].End(), e.Args[1].Pos(), "")
+	r.joinArguments(e.Args[0], e.Args[1])
 	if text {
 		r.asBytes(e.Args[1])
 	} else {

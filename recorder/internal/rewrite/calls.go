@@ -2,6 +2,8 @@ package rewrite
 
 import (
 	"go/ast"
+	"go/scanner"
+	"go/token"
 	"go/types"
 	"strings"
 )
@@ -34,9 +36,14 @@ func (r *rewriter) comma(e *ast.CallExpr) string {
 	if len(e.Args) == 0 {
 		return ""
 	}
-	last := e.Args[len(e.Args)-1].End()
-	if strings.Contains(string(r.src[last-r.start:e.Rparen-r.start]), ",") {
-		return ""
+	// Between the last argument and the parenthesis stand at most a comma and comments.
+	between := r.src[e.Args[len(e.Args)-1].End()-r.start : e.Rparen-r.start]
+	var s scanner.Scanner
+	s.Init(token.NewFileSet().AddFile("", -1, len(between)), between, nil, 0)
+	for _, t, _ := s.Scan(); t != token.EOF; _, t, _ = s.Scan() {
+		if t == token.COMMA {
+			return ""
+		}
 	}
 	return ", "
 }
@@ -50,6 +57,10 @@ func (r *rewriter) call(e *ast.CallExpr) {
 		return
 	}
 	f := r.callee(e)
+	if f != nil && genericCalls[f.FullName()] != "" && len(e.Args) > 0 && r.tupleOf(e.Args) == 0 {
+		r.genericCall(e, f)
+		return
+	}
 	sel := r.calledName(e, f)
 	if f != nil && f.Pkg() != nil && sel != nil && !r.isMethodExpression(sel) && r.libraryCall(e, sel, f) {
 		return
@@ -146,6 +157,14 @@ func (r *rewriter) libraryCall(e *ast.CallExpr, sel *ast.SelectorExpr, f *types.
 		r.replace(sel.Pos(), sel.End(), "gorec."+f.Name())
 		r.values(e.Args)
 		r.replace(e.Rparen, e.Rparen+1, r.comma(e)+s+")")
+	case contextCalls[full] != "":
+		r.insert(sel.Pos(), "gorec."+contextCalls[full]+"(")
+		r.insert(sel.End(), ", "+r.site(e, "done")+")")
+		r.values(e.Args)
+	case full == "os/signal.NotifyContext":
+		from := strings.TrimSuffix(r.source(sel), sel.Sel.Name)
+		r.replace(sel.Pos(), sel.End(), "gorec.NotifyContext("+from+"Notify, "+from+"Stop, "+r.site(e, "done")+")")
+		r.values(e.Args)
 	case timerCalls[full] != "":
 		s := r.site(e, "timer")
 		r.wrap(e, "gorec."+timerCalls[full]+"(", func() { r.values(e.Args) }, ", "+s+")")
@@ -168,6 +187,14 @@ func (r *rewriter) libraryCall(e *ast.CallExpr, sel *ast.SelectorExpr, f *types.
 	return true
 }
 
+// contextCalls are functions of package context since Go 1.20, and what goes round them.
+var contextCalls = map[string]string{
+	"context.AfterFunc":         "AfterDone",
+	"context.WithCancelCause":   "WithCancelCause",
+	"context.WithTimeoutCause":  "WithEndCause",
+	"context.WithDeadlineCause": "WithEndCause",
+}
+
 // timerCalls answer a timer or its channel.
 var timerCalls = map[string]string{
 	"time.After":     "TimerChannel",
@@ -187,7 +214,7 @@ func (r *rewriter) testingCall(e *ast.CallExpr, sel *ast.SelectorExpr, full stri
 		r.replace(e.Lparen, e.Lparen+1, ", ")
 		r.value(e.Args[0])
 		if f, ok := unparen(e.Args[0]).(*ast.FuncLit); ok && sel.Sel.Name == "Fuzz" {
-			r.insert(f.Body.Lbrace+1, "defer gorec.Test("+r.site(f, "test")+")();")
+			r.beginTest(f, f.Type, f.Body)
 		}
 		r.insert(e.Rparen, r.comma(e)+r.site(e, "test"))
 	case "(*testing.T).Run", "(*testing.B).Run":
@@ -197,6 +224,9 @@ func (r *rewriter) testingCall(e *ast.CallExpr, sel *ast.SelectorExpr, full stri
 			r.value(e.Args[0])
 			r.wrapArgument(e.Args[1], "Subtest", s)
 		}, ", "+s+")")
+	case "testing.Benchmark":
+		s := r.site(e, "test")
+		r.wrap(e, "gorec.Ran(", func() { r.wrapArgument(e.Args[0], "Subtest", s) }, ", "+s+")")
 	case "(*testing.T).Parallel":
 		r.insert(e.Pos(), "gorec.Parallel(")
 		r.value(sel.X)
@@ -208,6 +238,15 @@ func (r *rewriter) testingCall(e *ast.CallExpr, sel *ast.SelectorExpr, full stri
 		return false
 	}
 	return true
+}
+
+// beginTest changes the function of a test.
+func (r *rewriter) beginTest(at ast.Node, t *ast.FuncType, body *ast.BlockStmt) {
+	test := ""
+	if l := t.Params.List; len(l) > 0 && len(l[0].Names) > 0 && l[0].Names[0].Name != "_" {
+		test = ", " + l[0].Names[0].Name
+	}
+	r.insert(body.Lbrace+1, "defer gorec.Test("+r.site(at, "test")+test+")();")
 }
 
 // wrapArgument puts a call of the recorder round an argument.

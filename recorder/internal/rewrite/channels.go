@@ -11,9 +11,9 @@ import (
 func (r *rewriter) sendStatement(s *ast.SendStmt) {
 	site := r.site(s, "")
 	r.insert(s.Pos(), "gorec.Chan(")
-	r.value(s.Chan)
+	r.alone(s.Chan)
 	r.replace(s.Arrow, s.Arrow+2, ").Send(")
-	r.value(s.Value)
+	r.alone(s.Value)
 	r.insert(s.End(), ", "+site+")")
 }
 
@@ -66,8 +66,8 @@ func (r *rewriter) communication(s ast.Stmt) string {
 	var e ast.Expr
 	switch s := s.(type) {
 	case *ast.SendStmt:
-		c := r.render(s.Chan, func() { r.value(s.Chan) })
-		v := r.render(s.Value, func() { r.value(s.Value) })
+		c := r.render(s.Chan, func() { r.alone(s.Chan) })
+		v := r.render(s.Value, func() { r.alone(s.Value) })
 		return "gorec.Chan(" + c + ").Case(" + v + ")"
 	case *ast.ExprStmt:
 		e = s.X
@@ -75,7 +75,7 @@ func (r *rewriter) communication(s ast.Stmt) string {
 		e = s.Rhs[0]
 	}
 	c := unparen(e).(*ast.UnaryExpr).X
-	return "gorec.CaseReceive(" + r.render(c, func() { r.value(c) }) + ")"
+	return "gorec.CaseReceive(" + r.render(c, func() { r.alone(c) }) + ")"
 }
 
 // received is what a case does with what it received, at the begin of its statements.

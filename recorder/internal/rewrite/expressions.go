@@ -19,6 +19,14 @@ func (r *rewriter) value(e ast.Expr) {
 	if e == nil || r.isConstant(e) {
 		return
 	}
+	if reads := r.after[e]; len(reads) > 0 {
+		r.recordAfter(e, reads)
+	} else {
+		r.evaluate(e)
+	}
+}
+
+func (r *rewriter) evaluate(e ast.Expr) {
 	switch e := e.(type) {
 	case *ast.Ident:
 		r.identifier(e)
@@ -70,8 +78,11 @@ func (r *rewriter) variable(e *ast.Ident) {
 	}
 }
 
-// read puts a read round e, whose address is e's text.
+// read puts a read round e, whose address is e's text, unless it is recorded after a call.
 func (r *rewriter) read(e ast.Expr) {
+	if r.late[e] {
+		return
+	}
 	s := r.locationSite(e, e)
 	r.wrap(e, "gorec.Read(&", func() { r.address(e) }, ", "+s+")")
 }
@@ -158,12 +169,24 @@ func (r *rewriter) index(e *ast.IndexExpr) {
 
 // mapIndex makes m[k] a call of a method.
 func (r *rewriter) mapIndex(e *ast.IndexExpr, at ast.Node, method string) {
-	s := r.site(at, r.name(e.X))
-	r.insert(e.Pos(), "gorec.Map(")
-	r.value(e.X)
-	r.replace(e.Lbrack, e.Lbrack+1, ", "+s+")."+method)
+	r.mapping(e, at, method)
 	r.value(e.Index)
 	r.replace(e.Rbrack, e.Rbrack+1, ")")
+}
+
+// mapping makes the m of m[k] a value of the recorder's with methods; where one of values or k
+// has a call, it loads m once they have been evaluated.
+func (r *rewriter) mapping(e *ast.IndexExpr, at ast.Node, method string, values ...ast.Expr) {
+	s := r.site(at, r.name(e.X))
+	if r.isRecorded(e.X) && r.isRepeatable(e.X) && r.calls(append(values, e.Index)...) {
+		r.insert(e.Pos(), "gorec.MapAt(&")
+		r.address(e.X)
+		s = r.locationSite(e.X, e.X) + ", " + s
+	} else {
+		r.insert(e.Pos(), "gorec.Map(")
+		r.value(e.X)
+	}
+	r.replace(e.Lbrack, e.Lbrack+1, ", "+s+")."+method)
 }
 
 // looseMap puts ReadMap or WriteMap round a map.
@@ -199,6 +222,10 @@ func (r *rewriter) unary(e *ast.UnaryExpr) {
 		name := "literal"
 		if n, ok := r.typeOf(c).(*types.Named); ok {
 			name = n.Obj().Name()
+		}
+		if r.late[e] {
+			r.value(c)
+			return
 		}
 		s := r.siteOf(e, sites.Site{Name: name, Fields: fieldNames(r.typeOf(c))})
 		r.wrap(e, "gorec.New(", func() { r.value(c) }, ", "+s+")")

@@ -4,6 +4,8 @@ import (
 	"go/ast"
 	"go/constant"
 	"go/types"
+	"path"
+	"strconv"
 	"strings"
 )
 
@@ -13,8 +15,13 @@ func (r *rewriter) tabledCall(e *ast.CallExpr, sel *ast.SelectorExpr, f *types.F
 	switch {
 	case wholeCalls[full] != "":
 		r.wholeCall(e, sel, f, wholeCalls[full], r.lastName(e))
-	case sliceCalls[full] != "":
-		r.wholeCall(e, sel, f, sliceCalls[full], r.elementNames(e, f)...)
+	case sliceCall(f) != "":
+		r.wholeCall(e, sel, f, sliceCall(f), r.elementNames(e, f)...)
+	case ownSorts[full] && len(r.info.Selections[sel].Index()) == 1:
+		s := r.site(e, r.name(converted(sel.X))+"_elem")
+		r.insert(e.Pos(), "gorec.SortOwn(")
+		r.value(sel.X)
+		r.replace(sel.X.End(), e.End(), ", "+s+")")
 	case pointerCalls[full] != "":
 		r.wholeCall(e, sel, f, pointerCalls[full], r.lastNames(e, f)...)
 	case readMethod(f) != "" && !r.own[f.Pkg().Path()]:
@@ -48,11 +55,44 @@ func (r *rewriter) wholeCall(e *ast.CallExpr, sel *ast.SelectorExpr, f *types.Fu
 	r.arguments(e, f)
 }
 
+// genericCall is a call of a function of packages slices, maps or iter. The recorder's function is handed it with
+// the places of its slices or maps, and its arguments, by which its types are inferred.
+func (r *rewriter) genericCall(e *ast.CallExpr, f *types.Func) {
+	call, several := genericCalls[f.FullName()], 1
+	if strings.HasPrefix(call, "2 ") {
+		call, several = call[2:], 2
+	}
+	r.insert(e.Pos(), "gorec."+call+"(")
+	for _, a := range e.Args[:several] {
+		name := r.name(a)
+		if isSlice(r.typeOf(a)) {
+			name += "_elem"
+		}
+		r.insert(e.Pos(), r.site(e, name)+", ")
+	}
+	r.replace(e.Lparen, e.Lparen+1, ", ")
+	r.arguments(e, f)
+}
+
+// sliceCall is what goes round f where it reads or writes elements of slices, or appends to one.
+func sliceCall(f *types.Func) string {
+	name := strings.TrimPrefix(f.Name(), "Put")
+	switch {
+	case f.Pkg().Path() != "encoding/binary" || !hasReceiver(f):
+	case name != f.Name() && binarySizes[name] > 0:
+		return "Puts"
+	case binarySizes[strings.TrimPrefix(f.Name(), "Append")] > 0 && name != strings.TrimPrefix(name, "Append"):
+		return "Appends1"
+	}
+	return sliceCalls[f.FullName()]
+}
+
 // elementNames are what the elements of the slices that f is handed are called.
 func (r *rewriter) elementNames(e *ast.CallExpr, f *types.Func) (names []string) {
-	params := f.Type().(*types.Signature).Params()
+	sig := f.Type().(*types.Signature)
+	params := sig.Params()
 	for i := 0; i < params.Len(); i++ {
-		if isSlice(params.At(i).Type()) {
+		if isSlice(params.At(i).Type()) && !(sig.Variadic() && i == params.Len()-1) {
 			names = append(names, r.name(argumentAt(e, i))+"_elem")
 		}
 	}
@@ -119,21 +159,36 @@ func (r *rewriter) methodCall(e *ast.CallExpr, sel *ast.SelectorExpr, f *types.F
 		}
 	case isContent:
 		r.contentCall(e, sel, f, hasWord(reads, f.Name()))
+	case goesOut(typ, f.Name()) && (path == "" || isPointer(r.typeOf(sel.X)) || isInterface(r.typeOf(sel.X))):
+		r.wrapReceiver(sel, "Out", r.site(e, name))
+	case listenerTypes[typ] && strings.HasPrefix(f.Name(), "Accept") && path == "":
+		r.wrapReceiver(sel, "Accepts", r.site(e, name))
+	case f.FullName() == "(net/http.Handler).ServeHTTP" && path == "":
+		r.wrapReceiver(sel, "Serves", r.site(e, name))
 	case path != "":
 		r.value(sel)
-	case outTypes[typ] && strings.HasPrefix(f.Name(), "Write"):
-		r.wrapReceiver(sel, "Out", r.site(e, name))
+	case typ == "encoding/gob.Encoder" || typ == "encoding/gob.Decoder": // which have a lock of their own
+		r.wrapReceiver(sel, streamCall(typ == "encoding/gob.Decoder"), r.site(e, name))
 	case isMap && hasWord(writesMap, f.Name()):
 		r.wrapReceiver(sel, "WriteMap", r.site(e, name))
 	case isMap:
 		r.wrapReceiver(sel, "ReadMap", r.site(e, name))
 	case typ == "reflect.Value":
 		r.reflectCall(e, sel, f)
+	case isInterface(r.typeOf(sel.X)) && f.Name() == "Close":
+		r.wrapReceiver(sel, "Closes", r.site(e, name))
 	case isInterface(r.typeOf(sel.X)) && hasWord(streamMethods, f.Name()):
 		r.wrapReceiver(sel, streamCall(strings.HasPrefix(f.Name(), "Read")), r.site(e, name))
 	default:
 		r.value(sel)
 	}
+}
+
+// goesOut reports whether a method of a file, a connection or a listener has others go on, who read
+// from it or wait for it.
+func goesOut(typ, method string) bool {
+	return outTypes[typ] && strings.HasPrefix(method, "Write") ||
+		(listenerTypes[typ] || outTypes[typ] && typ != "os.File") && strings.HasPrefix(method, "Close")
 }
 
 func (r *rewriter) wrapReceiver(sel *ast.SelectorExpr, call, more string) {
@@ -175,7 +230,7 @@ func (r *rewriter) contentCall(e *ast.CallExpr, sel *ast.SelectorExpr, f *types.
 		r.use(sel, call, s)
 		return
 	}
-	if !isSimple(sel.X) || r.tupleOf(e.Args) > 0 {
+	if !r.isRepeatable(sel.X) || r.tupleOf(e.Args) > 0 {
 		r.noteEarly(e, e.Args...)
 		r.use(sel, call, s)
 		return
@@ -201,17 +256,6 @@ func (r *rewriter) lastCalling(args []ast.Expr) int {
 	return -1
 }
 
-// isSimple reports whether to evaluate e twice does nothing more.
-func isSimple(e ast.Expr) bool {
-	switch e := unparen(e).(type) {
-	case *ast.Ident:
-		return true
-	case *ast.SelectorExpr:
-		return isSimple(e.X)
-	}
-	return false
-}
-
 // foreignArgument changes an argument of a call of code without the recorder, which may read
 // or write what it leads to. That is recorded where the argument is evaluated, which is too
 // early where the call is made later, or something is called behind the argument.
@@ -226,6 +270,10 @@ func (r *rewriter) foreignArgument(e *ast.CallExpr, f *types.Func, i int) {
 		r.value(a)
 	case call == "":
 		r.value(a)
+	case call == "First":
+		r.wrapArgument(a, call, strconv.Itoa(binarySizes[f.Name()])+", "+r.site(a, r.name(a)))
+	case call == "Encoded":
+		r.wrapArgument(a, call, strconv.Quote(path.Base(f.Pkg().Path()))+", "+r.site(a, r.name(a)))
 	default:
 		r.wrapArgument(a, call, r.site(a, r.name(a)))
 	}
@@ -249,7 +297,9 @@ func (r *rewriter) looksInto(e *ast.CallExpr, f *types.Func, i int) (call string
 	t := r.typeOf(a)
 	spread := e.Ellipsis.IsValid() && i == len(e.Args)-1
 	switch {
-	case r.isConstant(a) || !leads(t) || showFunctions[full] && r.namesOnly(e, f, i):
+	case r.isConstant(a) || !leads(t) || showFunctions[full] && (r.namesOnly(e, f, i) || i == 0 && sliceCalls[full] != ""):
+	case f.Pkg().Path() == "encoding/binary" && hasReceiver(f) && binarySizes[f.Name()] > 0:
+		call = "First"
 	case streamFunctions[full] && takesStream(full, i) && !isSlice(t) && !spread:
 		if mayStream(t) || isEnd(t) {
 			call = streamCall(readsStream(full, i))
@@ -262,11 +312,11 @@ func (r *rewriter) looksInto(e *ast.CallExpr, f *types.Func, i int) (call string
 		}
 	case showFunctions[full]:
 		call = "Shown"
-	case full == "reflect.DeepEqual":
+	case full == "reflect.DeepEqual" || full == "encoding/binary.Write":
 		call = "Compared"
 	case encodeFunctions[full]:
 		call = "Encoded"
-	case missingPackages[f.Pkg().Path()] && wholeCalls[full] == "" && receiverType(f) != "reflect.Value" && !onlyKeeps(f):
+	case missingPackages[f.Pkg().Path()] && wholeCalls[full] == "" && sliceCall(f) == "" && receiverType(f) != "reflect.Value" && !onlyKeeps(f):
 		return "", false
 	}
 	return call, true
@@ -370,7 +420,7 @@ func leads(t types.Type) bool {
 // readsElements reports whether a function of the standard library reads the elements of slices.
 func readsElements(f *types.Func) bool {
 	top, _, _ := strings.Cut(f.Pkg().Path(), "/")
-	if !readingPackages[top] {
+	if !readingPackages[top] || sliceCall(f) != "" {
 		return false
 	}
 	for _, begin := range otherNames {

@@ -76,7 +76,7 @@ func (l *loop) plain() {
 	if isArray(l.typeOf(l.s.X)) && l.value == "" {
 		l.address(l.s.X)
 	} else {
-		l.rewriter.value(l.s.X)
+		l.rewriter.alone(l.s.X)
 	}
 	text := ""
 	if !l.define {
@@ -88,7 +88,7 @@ func (l *loop) plain() {
 // overArray loops over a slice of a copy of the array.
 func (l *loop) overArray() {
 	array := l.newName("x")
-	text := l.render(l.s.X, func() { l.rewriter.value(l.s.X) })
+	text := l.render(l.s.X, func() { l.rewriter.alone(l.s.X) })
 	l.insert(l.s.For, "{"+array+" := "+text+"; ")
 	l.replace(l.s.For+3, l.s.X.End(), "")
 	l.indexed("gorec.RangeKey("+array+"[:]", "", "")
@@ -96,7 +96,7 @@ func (l *loop) overArray() {
 }
 
 func (l *loop) overString() {
-	text := l.render(l.s.X, func() { l.rewriter.value(l.s.X) })
+	text := l.render(l.s.X, func() { l.rewriter.alone(l.s.X) })
 	l.replace(l.s.For+3, l.s.X.End(), "")
 	l.indexed("gorec.RangeString("+text, ".Index", ".Rune")
 }
@@ -207,13 +207,13 @@ func (l *loop) mayDepend(left []ast.Expr) bool {
 // head replaces what stands between for and the range's operand.
 func (l *loop) head(text string) {
 	l.replace(l.s.For+3, l.s.X.Pos(), " "+text)
-	l.rewriter.value(l.s.X)
+	l.rewriter.alone(l.s.X)
 }
 
 func (l *loop) overSlice() {
 	switch {
 	case l.clears():
-		l.wrap(l.s.X, "gorec.Cleared(", func() { l.rewriter.value(l.s.X) }, ", "+l.siteOfElement()+")")
+		l.wrap(l.s.X, "gorec.Cleared(", func() { l.rewriter.alone(l.s.X) }, ", "+l.siteOfElement()+")")
 		return
 	case l.value == "" && (l.key == "" || l.define && !l.sharedKey):
 		l.plain()

@@ -87,6 +87,9 @@ func form(t *testing.T, name, body string) string {
 	start := "func form(bytes []byte) {\n"
 	p := checked(t, name, prelude+start+body+"\n}\n")
 	result := Package(p, "", map[string]bool{"forms": true}, sites.New())
+	if line, want := lastLine(t, name, result.Files[0]), p.Fset.Position(p.Files[0].End()).Line; line != want {
+		t.Errorf("%s: it ends at line %d, not %d", name, line, want)
+	}
 	_, text, _ := strings.Cut(result.Files[0], start)
 	text, _, _ = strings.Cut(text, "\n}\n\nvar _ gorec.Site")
 	for _, r := range result.Refused {
@@ -97,6 +100,37 @@ func form(t *testing.T, name, body string) string {
 		text = strings.TrimRight(text, "\n") + "\nmissed: " + m
 	}
 	return strings.TrimRight(text, "\n") + "\n"
+}
+
+// TestTypesOfOthers: where a value needs its type's name, a file may lack the type's package.
+func TestTypesOfOthers(t *testing.T) {
+	p := checked(t, "types of others", `package forms
+import "net/http"
+var server = &http.Server{}
+func count() int { return 1 }
+func set() { server.ReadTimeout, server.Addr = 1<<count(), "" }
+`)
+	text := Package(p, "", map[string]bool{"forms": true}, sites.New()).Files[0]
+	if !strings.Contains(text, `; import gorec_p2 "time"`) || !strings.Contains(text, "gorec_p2.Duration(1<<count())") {
+		t.Error(text)
+	}
+}
+
+// lastLine is the line at which the last function of a file ends.
+func lastLine(t *testing.T, name, src string) (line int) {
+	t.Helper()
+	files := token.NewFileSet()
+	f, err := parser.ParseFile(files, "forms.go", src, parser.SkipObjectResolution)
+	if err != nil {
+		t.Errorf("%s: %v", name, err)
+		return 0
+	}
+	for _, d := range f.Decls {
+		if d, ok := d.(*ast.FuncDecl); ok {
+			line = files.Position(d.End()).Line
+		}
+	}
+	return line
 }
 
 func checked(t *testing.T, name, src string) *load.Package {

@@ -34,14 +34,18 @@ type rewriter struct {
 	editor
 	*shared
 	file      *ast.File
-	generic   int                 // depth of generic functions
-	fresh     int                 // for names
-	keep      map[string]bool     // package functions that still have to be used
-	within    ast.Node            // the function
-	behind    map[ast.Expr]string // what stands behind an argument
-	labeled   ast.Stmt            // the last statement with a label
-	postponed bool                // a call is changed that is made later
-	pointers  map[ast.Node]string // to the results of functions in which another variable has their name
+	generic   int                     // depth of generic functions
+	fresh     int                     // for names
+	keep      map[string]bool         // package functions that still have to be used
+	within    ast.Node                // the function
+	behind    map[ast.Expr]string     // what stands behind an argument
+	labeled   ast.Stmt                // the last statement with a label
+	postponed bool                    // a call is changed that is made later
+	pointers  map[ast.Node]string     // to the results of functions in which another variable has their name
+	late      map[ast.Expr]bool       // reads that are recorded after a call (order.go)
+	after     map[ast.Expr][]ast.Expr // those of each call
+	imports   map[string]string       // names of packages, by their paths, that types are written with
+	imported  string                  // the imports of these
 }
 
 // shared is the work on a package.
@@ -62,7 +66,8 @@ type shared struct {
 func Package(p *load.Package, base string, own map[string]bool, table *sites.Table) Result {
 	s := &shared{p: p, base: base, info: p.Info, facts: factsOf(p), own: own, table: table}
 	for i, f := range p.Files {
-		r := &rewriter{shared: s, file: f, keep: map[string]bool{}, behind: map[ast.Expr]string{}, pointers: map[ast.Node]string{}}
+		r := &rewriter{shared: s, file: f, keep: map[string]bool{}, behind: map[ast.Expr]string{}, pointers: map[ast.Node]string{},
+			late: map[ast.Expr]bool{}, after: map[ast.Expr][]ast.Expr{}, imports: map[string]string{}}
 		r.src = p.Sources[i]
 		r.start = p.Fset.File(f.Pos()).Pos(0)
 		s.result.Files = append(s.result.Files, r.rewriteFile())
@@ -83,7 +88,6 @@ func (s *shared) sitesFile() string {
 
 func (r *rewriter) rewriteFile() string {
 	end := r.p.Fset.File(r.file.Pos()).Pos(len(r.src))
-	r.insert(r.file.Name.End(), "; import \"gorace.local/recorder/gorec\"")
 	for _, d := range r.file.Decls {
 		switch d := d.(type) {
 		case *ast.GenDecl:
@@ -94,6 +98,7 @@ func (r *rewriter) rewriteFile() string {
 			r.function(d)
 		}
 	}
+	r.insert(r.file.Name.End(), "; import \"gorace.local/recorder/gorec\""+r.imported)
 	r.insert(end, "\nvar _ gorec.Site\n")
 	var keep []string
 	for k := range r.keep {
@@ -112,15 +117,20 @@ func (r *rewriter) function(d *ast.FuncDecl) {
 		defer func() { r.generic-- }()
 	}
 	if r.isTest(d) {
-		r.insert(d.Body.Lbrace+1, "defer gorec.Test("+r.site(d, "test")+")();")
+		r.beginTest(d, d.Type, d.Body)
 	}
 	r.handler(d, d.Type, d.Body)
+	r.calledBack(d)
 	if r.p.Name == "main" && d.Recv == nil && d.Name.Name == "main" {
 		r.replace(d.Name.Pos(), d.Name.End(), "gorec_main")
 		r.mainSite = r.site(d, "")
 	}
 	r.within = d
+	before := len(r.edits)
 	r.block(d.Body)
+	if r.generic > 0 && len(r.edits) > before && r.p.InlinesBadly() {
+		r.insert(d.Body.Lbrace+1, "for false { go gorec.Never() };") // which keeps it from being inlined
+	}
 }
 
 // handler has the recorder know when a handler of HTTP begins and ends.
@@ -130,6 +140,44 @@ func (r *rewriter) handler(f ast.Node, t *ast.FuncType, body *ast.BlockStmt) {
 		isResponseWriter(r.typeOf(params[0].Type)) && r.typeOf(params[1].Type).String() == "*net/http.Request" {
 		r.insert(body.Lbrace+1, "defer gorec.Handler("+r.site(f, "")+")();")
 	}
+}
+
+// calledBack has the recorder know when a method begins and ends that the standard library may call
+// under a lock of its own.
+func (r *rewriter) calledBack(d *ast.FuncDecl) {
+	f, _ := r.info.Defs[d.Name].(*types.Func)
+	if d.Recv == nil || d.Body == nil || f == nil || !mayBeCalled(f) {
+		return
+	}
+	call, receiver := "CalledOn(", d.Recv.List[0]
+	if len(receiver.Names) == 1 && receiver.Names[0].Name != "_" && isPointer(r.typeOf(receiver.Type)) {
+		call = "Called(" + receiver.Names[0].Name + ", "
+	}
+	r.insert(d.Body.Lbrace+1, "defer gorec."+call+r.site(d, "")+")();")
+}
+
+// mayBeCalled reports whether a method is one of a Reader, a Writer or a Closer, or of a driver of
+// database/sql.
+func mayBeCalled(f *types.Func) bool {
+	switch signature := f.Type().(*types.Signature); f.Name() {
+	case "Read", "Write":
+		return signature.Results().Len() == 2 && signature.Params().Len() == 1 &&
+			types.Identical(signature.Params().At(0).Type(), types.NewSlice(types.Typ[types.Byte]))
+	case "Close":
+		if signature.Params().Len() == 0 && signature.Results().Len() == 1 {
+			return true
+		}
+	}
+	return driverMethods[f.Name()] && imports(f.Pkg(), "database/sql/driver")
+}
+
+func imports(p *types.Package, path string) bool {
+	for _, i := range p.Imports() {
+		if i.Path() == path {
+			return true
+		}
+	}
+	return false
 }
 
 // isResponseWriter reports whether a server's answer is written to values of the type.

@@ -1,6 +1,7 @@
 package rewrite
 
 import (
+	"fmt"
 	"go/ast"
 	"go/token"
 	"go/types"
@@ -23,6 +24,7 @@ func (r *rewriter) statement(s ast.Stmt, inBlock bool) {
 	switch s := s.(type) {
 	case nil:
 	case *ast.ExprStmt:
+		r.together(s.X)
 		r.value(s.X)
 	case *ast.SendStmt:
 		r.sendStatement(s)
@@ -33,6 +35,7 @@ func (r *rewriter) statement(s ast.Stmt, inBlock bool) {
 	case *ast.GoStmt:
 		r.goStatement(s)
 	case *ast.DeferStmt:
+		r.together(s.Call)
 		r.postpone(func() { r.call(s.Call) })
 	case *ast.ReturnStmt:
 		r.returnStatement(s)
@@ -59,28 +62,30 @@ func (r *rewriter) branching(s ast.Stmt) {
 	switch s := s.(type) {
 	case *ast.IfStmt:
 		r.statement(s.Init, false)
-		r.value(s.Cond)
+		r.alone(s.Cond)
 		r.block(s.Body)
 		r.statement(s.Else, true)
 	case *ast.ForStmt:
 		r.statement(s.Init, false)
-		r.value(s.Cond)
+		r.alone(s.Cond)
 		r.statement(s.Post, false)
 		r.block(s.Body)
 	case *ast.SwitchStmt:
 		r.statement(s.Init, false)
-		r.value(s.Tag)
+		r.alone(s.Tag)
 		for _, c := range s.Body.List {
-			r.values(c.(*ast.CaseClause).List)
+			for _, e := range c.(*ast.CaseClause).List {
+				r.alone(e)
+			}
 			r.statements(c.(*ast.CaseClause).Body)
 		}
 	case *ast.TypeSwitchStmt:
 		r.statement(s.Init, false)
 		switch a := s.Assign.(type) {
 		case *ast.ExprStmt:
-			r.value(a.X)
+			r.alone(a.X)
 		case *ast.AssignStmt:
-			r.value(a.Rhs[0])
+			r.alone(a.Rhs[0])
 		}
 		for _, c := range s.Body.List {
 			r.statements(c.(*ast.CaseClause).Body)
@@ -93,6 +98,7 @@ func (r *rewriter) branching(s ast.Stmt) {
 func (r *rewriter) variables(g *ast.GenDecl) {
 	for _, spec := range g.Specs {
 		v := spec.(*ast.ValueSpec)
+		r.together(v.Values...)
 		if len(v.Names) == 2 && len(v.Values) == 1 {
 			r.okValue(v.Values[0])
 		} else {
@@ -104,6 +110,7 @@ func (r *rewriter) variables(g *ast.GenDecl) {
 // returnStatement writes a lone named result that more than one goroutine may come to, and
 // reads it.
 func (r *rewriter) returnStatement(s *ast.ReturnStmt) {
+	r.together(s.Results...)
 	r.values(s.Results)
 	results := r.facts.results[r.within]
 	if len(results) != 1 || !r.facts.shared(results[0]) || results[0].Name() == "_" {
@@ -154,6 +161,10 @@ func (r *rewriter) visible(name string, n ast.Node) types.Object {
 // goStatement evaluates the function and the arguments, and starts the goroutine with them.
 func (r *rewriter) goStatement(s *ast.GoStmt) {
 	c := s.Call
+	r.together(c.Fun)
+	for _, a := range c.Args { // as Go's compiler evaluates them
+		r.together(a)
+	}
 	site := r.site(s, "")
 	if f, ok := unparen(c.Fun).(*ast.FuncLit); ok && len(c.Args) == 0 && f.Type.Results == nil {
 		r.replace(s.Go, c.Fun.Pos(), "gorec.Go("+site+", ")
@@ -169,7 +180,18 @@ func (r *rewriter) goStatement(s *ast.GoStmt) {
 	if r.info.Types[c.Fun].IsBuiltin() {
 		call, args = r.startedBuiltin(s, call, args)
 	}
-	r.replace(s.Pos(), s.End(), "{"+before+first+"gorec.Go("+site+", func() { "+call+"("+args+") })}")
+	started := "gorec.Go(" + site + ", func() { " + call + "(" + args + ") })}"
+	r.replace(s.Pos(), s.End(), "{"+before+first+r.atLine(s.Pos(), s.End())+started+r.atLine(s.End(), s.Pos()))
+}
+
+// atLine is a directive by which what follows is at the line of a place, if that of the other is
+// another one: a goroutine is started where its go stands, and not where its arguments end.
+func (r *rewriter) atLine(pos, other token.Pos) string {
+	at := r.p.Fset.Position(pos)
+	if at.Line == r.p.Fset.Position(other).Line {
+		return ""
+	}
+	return fmt.Sprintf("/*line :%d:%d*/", at.Line, at.Column)
 }
 
 // startedFunction is the function of a go statement, evaluated where it has to be.
@@ -177,7 +199,7 @@ func (r *rewriter) startedFunction(c *ast.CallExpr) (before, call string) {
 	f := r.callee(c)
 	isFunction := f != nil && !hasReceiver(f) && !ofSync(f)
 	if isFunction || r.info.Types[c.Fun].IsBuiltin() {
-		return "", r.source(c.Fun)
+		return "", r.render(c.Fun, func() { r.value(c.Fun) })
 	}
 	call = r.newName("f")
 	return call + " := " + r.render(c.Fun, func() { r.value(c.Fun) }) + "; ", call

@@ -15,12 +15,12 @@ var syncTypes = map[string]struct{ use, methods string }{
 	"sync.WaitGroup":      {"WaitGroup", "Add Done Wait Go"},
 	"sync.Cond":           {"Cond", "Wait Signal Broadcast"},
 	"sync.Pool":           {"Pool", "Get Put"},
-	"sync.Map":            {"SyncMap", "Load Store LoadOrStore LoadAndDelete Delete Range"},
-	"sync/atomic.Int32":   {"AtomicInt32", "Load Store Add Swap CompareAndSwap"},
-	"sync/atomic.Int64":   {"AtomicInt64", "Load Store Add Swap CompareAndSwap"},
-	"sync/atomic.Uint32":  {"AtomicUint32", "Load Store Add Swap CompareAndSwap"},
-	"sync/atomic.Uint64":  {"AtomicUint64", "Load Store Add Swap CompareAndSwap"},
-	"sync/atomic.Uintptr": {"AtomicUintptr", "Load Store Add Swap CompareAndSwap"},
+	"sync.Map":            {"SyncMap", "Load Store LoadOrStore LoadAndDelete Delete Range Swap CompareAndSwap CompareAndDelete Clear"},
+	"sync/atomic.Int32":   {"AtomicInt32", "Load Store Add Swap CompareAndSwap And Or"},
+	"sync/atomic.Int64":   {"AtomicInt64", "Load Store Add Swap CompareAndSwap And Or"},
+	"sync/atomic.Uint32":  {"AtomicUint32", "Load Store Add Swap CompareAndSwap And Or"},
+	"sync/atomic.Uint64":  {"AtomicUint64", "Load Store Add Swap CompareAndSwap And Or"},
+	"sync/atomic.Uintptr": {"AtomicUintptr", "Load Store Add Swap CompareAndSwap And Or"},
 	"sync/atomic.Bool":    {"AtomicBool", "Load Store Swap CompareAndSwap"},
 	"sync/atomic.Value":   {"AtomicValue", "Load Store Swap CompareAndSwap"},
 	"sync/atomic.Pointer": {"AtomicPointer", "Load Store Swap CompareAndSwap"},
@@ -124,13 +124,18 @@ var atomicKinds = []struct{ begin, call string }{
 	{"Store", "AtomicStore"},
 	{"Add", "AtomicChange"},
 	{"Swap", "AtomicChange"},
+	{"And", "AtomicChange"},
+	{"Or", "AtomicChange"},
 	{"CompareAndSwap", "AtomicCompareAndSwap"},
 }
 
-// functionValue changes a function of another package that isn't called.
+// functionValue changes the name of a function: of main, which has another one, and of a function of
+// another package that isn't called.
 func (r *rewriter) functionValue(e ast.Expr, f *types.Func) {
 	switch {
 	case f.Pkg() == nil:
+	case f.Pkg() == r.p.Types && r.p.Name == "main" && f.Name() == "main":
+		r.replace(e.Pos(), e.End(), "gorec_main")
 	case f.Pkg().Path() == "sync/atomic":
 		r.atomicFunction(e, f, "")
 	case f.Pkg().Path() == "sync" && f.Name() != "NewCond":

@@ -4,7 +4,6 @@ import (
 	"go/ast"
 	"go/types"
 	"strconv"
-	"strings"
 )
 
 func unparen(e ast.Expr) ast.Expr {
@@ -145,18 +144,18 @@ func comparable119(t types.Type) bool {
 
 func (r *rewriter) typeOf(e ast.Expr) types.Type { return r.info.TypeOf(e) }
 
-// typeText is what a type is called in the file.
+// typeText is what a type is called in the file. Other packages are imported once more for it, since
+// the file may have none of the type's, or something else by that name.
 func (r *rewriter) typeText(t types.Type) string {
 	return types.TypeString(t, func(p *types.Package) string {
 		if p == r.p.Types {
 			return ""
 		}
-		for _, i := range r.file.Imports {
-			if i.Name != nil && i.Path.Value == strconv.Quote(p.Path()) {
-				return strings.TrimPrefix(i.Name.Name, ".")
-			}
+		if r.imports[p.Path()] == "" {
+			r.imports[p.Path()] = r.newName("p")
+			r.imported += "; import " + r.imports[p.Path()] + " " + strconv.Quote(p.Path())
 		}
-		return p.Name()
+		return r.imports[p.Path()]
 	})
 }
 

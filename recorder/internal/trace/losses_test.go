@@ -23,7 +23,7 @@ func TestLosses(t *testing.T) {
 		t.Fatal(err)
 	}
 	const want = "2 goroutines were started by code that isn't recorded, so races with them may be missed (a.go:1, a_test.go:2); " +
-		"1 test began in package testing, which isn't recorded (a_test.go:1)"
+		"1 test was started by package testing, so races with what came before may be missed (a_test.go:1)"
 	if got := s.Losses(); got != want {
 		t.Error(got)
 	}

@@ -204,7 +204,7 @@ func (s *Summary) Losses() string {
 	}{
 		{s.unseen, "read", "reads", "found writes by code that isn't recorded, whose races are missed"},
 		{s.losses[wire.LostGoroutine], "goroutine was", "goroutines were", "started by code that isn't recorded, so races with them may be missed"},
-		{s.losses[wire.Losses], "test", "tests", "began in package testing, which isn't recorded"},
+		{s.losses[wire.Losses], "test was", "tests were", "started by package testing, so races with what came before may be missed"},
 		{s.losses[wire.LostChannel], "channel is", "channels are", "used by code that isn't recorded, so reports may be false"},
 		{s.losses[wire.LostLocker], "locker is", "lockers are", "of types that aren't recorded, so reports may be false"},
 	} {

@@ -62,7 +62,8 @@ gorec: nothing was run: one place can't be recorded (-force goes on without)
 		t.Errorf("status %d\n%s%s", status, out, errs)
 	}
 	out, _, status = runTool(t, "run", "-force", "-gorace", stub(t), "./refused")
-	if status != 0 || out != "ran\nclean: 0 events, 0 accesses\n" {
+	want = "ran\nclean: 0 events, 0 accesses\ngorec: one place can't be recorded, so reports may be false (refused/main.go:10)\n"
+	if status != 0 || out != want {
 		t.Errorf("forced: status %d\n%s", status, out)
 	}
 }
@@ -76,7 +77,8 @@ func TestForced(t *testing.T) {
 		t.Fatal(err)
 	}
 	out, errs, status := runTool(t, "run", "-force", "-gorace", stub(t), "./forced")
-	if status != 0 || !strings.HasPrefix(out, string(want)+"clean: ") {
+	if status != 0 || !strings.HasPrefix(out, string(want)+"clean: ") ||
+		!strings.Contains(out, " places can't be recorded, so reports may be false (forced/main.go:") {
 		t.Errorf("status %d\n%s%sbut plain\n%s", status, out, errs, want)
 	}
 }

@@ -22,11 +22,14 @@ func TestTags(t *testing.T) {
 	}
 }
 
-// TestFiles: a program that is named by its files may import what is internal where they are.
+// TestFiles: a program that is named by its files may import what is internal where they are, and is
+// built whatever they say of builds.
 func TestFiles(t *testing.T) {
-	out, errs, status := runTool(t, "run", "-gorace", stub(t), "inner/main.go")
-	if status != 0 || !strings.HasPrefix(errs, "2\n") {
-		t.Errorf("status %d\n%s%s", status, out, errs)
+	for file, word := range map[string]string{"inner/main.go": "2\n", "constrained/main_plan9.go": "17\n"} {
+		out, errs, status := runTool(t, "run", "-gorace", stub(t), file)
+		if status != 0 || !strings.HasPrefix(errs, word) {
+			t.Errorf("%s: status %d\n%s%s", file, status, out, errs)
+		}
 	}
 }
 

@@ -8,7 +8,7 @@ import (
 	"testing"
 )
 
-// newer are programs with what newer Go's package sync has. What that orders doesn't race.
+// newer are programs with what newer Go has. What its package sync orders doesn't race.
 var newer = []struct {
 	name    string
 	minor   int // of the first Go that has it
@@ -51,6 +51,162 @@ var newer = []struct {
 		panic(x)
 	}
 `, verdict{}},
+	{"context's functions of a cause", 21, "(\n\t\"context\"\n\t\"errors\"\n\t\"time\"\n)", `	x, racy, done := 0, 0, make(chan int)
+	ctx, cancel := context.WithCancelCause(context.Background())
+	below, stop := context.WithTimeoutCause(ctx, time.Hour, errors.New("late"))
+	defer stop()
+	context.AfterFunc(below, func() { done <- x })
+	go func() {
+		<-below.Done()
+		racy++
+		done <- x
+	}()
+	x = 5
+	cancel(errors.New("enough"))
+	racy++
+	if <-done+<-done != 10 || context.Cause(below).Error() != "enough" {
+		panic(context.Cause(below))
+	}
+`, verdict{races: []string{"racy"}}},
+	{"packages slices and maps", 21, "(\n\t\"cmp\"\n\t\"maps\"\n\t\"slices\"\n)\n\ntype ints []int", `	sorted, found, moved, same := ints{1, 3, 2}, []int{1, 2, 3}, make(ints, 4, 5), []string{"a", "b"}
+	from, to, kept := map[int]int{1: 1}, map[int]int{}, map[string]bool{"a": true}
+	done := make(chan bool)
+	go func() {
+		slices.Sort(sorted)
+		found[2]++
+		slices.SortFunc(same, cmp.Compare)
+		moved = slices.Insert(moved, 1, 7)
+		maps.Copy(to, from)
+		maps.DeleteFunc(kept, func(k string, v bool) bool { return !v })
+		done <- true
+	}()
+	if slices.Max(sorted[1:2]) == 0 || slices.Index(found, 2) != 1 || !slices.Contains(same, "a") || moved[0] != 0 {
+		panic(sorted)
+	}
+	if c := maps.Clone(from); !maps.Equal(c, from) || !kept["a"] || len(to) > 1 {
+		panic(c)
+	}
+	<-done
+	if n, found := slices.BinarySearchFunc(sorted, 2, func(a, b int) int { return a - b }); n != 1 || !found || moved[1] != 7 {
+		panic(n)
+	}
+`, verdict{races: []string{"moved", "sorted_elem", "to"}}},
+	{"atomic bits and what a sync.Map has", 23, "(\n\t\"sync\"\n\t\"sync/atomic\"\n)", `	x, racy, bits, flags := 0, 0, atomic.Uint32{}, uint64(0)
+	var m sync.Map
+	done := make(chan bool)
+	go func() {
+		x = 1
+		bits.Or(4)
+		for atomic.AndUint64(&flags, 3) != 2 {
+		}
+		x++
+		m.Store("a", 1)
+		racy++
+		done <- true
+	}()
+	for bits.And(6) != 4 {
+	}
+	x++
+	atomic.OrUint64(&flags, 2)
+	for !m.CompareAndSwap("a", 1, 2) {
+	}
+	x++
+	racy++
+	<-done
+	if v, loaded := m.Swap("a", 3); v != 2 || !loaded || !m.CompareAndDelete("a", 3) || x != 4 {
+		panic(x)
+	}
+	go func() {
+		x++
+		m.Store("b", 1)
+		m.Clear()
+		x++
+		m.Store("c", 1)
+	}()
+	for _, ok := m.Load("c"); !ok; _, ok = m.Load("c") {
+	}
+	if x != 6 {
+		panic(x)
+	}
+`, verdict{races: []string{"racy"}}},
+	{"iterators", 23, "(\n\t\"iter\"\n\t\"maps\"\n\t\"slices\"\n\t\"sync\"\n)", `	x, racy, all, byName := 0, 0, []int{1, 2, 3}, map[string]int{"a": 1}
+	var lock sync.Mutex
+	next, stop := iter.Pull(func(yield func(int) bool) {
+		racy++
+		lock.Lock()
+		defer lock.Unlock()
+		for _, v := range all {
+			if x += v; !yield(v) {
+				return
+			}
+		}
+	})
+	done := make(chan bool)
+	go func() {
+		racy++
+		lock.Lock()
+		x++
+		lock.Unlock()
+		all[2] = 4
+		byName["b"] = 2
+		done <- true
+	}()
+	next()
+	x++
+	next()
+	stop()
+	for v := range slices.Values(all) {
+		if v == 2 {
+			break
+		}
+	}
+	for range maps.Keys(byName) {
+		break
+	}
+	<-done
+	later, end := iter.Pull2(slices.All(all))
+	defer end()
+	go func() { later(); done <- true }()
+	<-done
+	if i, v, ok := later(); i != 1 || v != 2 || !ok {
+		panic(v)
+	}
+`, verdict{races: []string{"byName", "racy"}}},
+	{"an alias with type parameters", 24, "\"sync\"\n\ntype set[T comparable] = map[T]struct{}\n\ntype mutex = sync.Mutex", `	var lock mutex
+	locked, racy := set[int]{}, set[int]{}
+	done := make(chan bool)
+	for i := range 2 {
+		go func() {
+			lock.Lock()
+			locked[i] = struct{}{}
+			lock.Unlock()
+			if i == 0 {
+				racy[i] = struct{}{}
+			}
+			done <- true
+		}()
+	}
+	_ = len(racy)
+	<-done
+	<-done
+`, verdict{races: []string{"racy"}}},
+	{"a benchmark's context", 24, `"testing"`, `	racy := 0
+	testing.Benchmark(func(b *testing.B) {
+		x, done := 0, make(chan bool)
+		go func() {
+			racy++
+			<-b.Context().Done()
+			x++
+			close(done)
+		}()
+		racy++
+		x++
+		b.Cleanup(func() {
+			<-done
+			x++
+		})
+	})
+`, verdict{races: []string{"racy"}}},
 	{"WaitGroup.Go", 25, `"sync"`, `	var group sync.WaitGroup
 	x, racy := make([]int, 3), 0
 	for i := range x {
@@ -66,7 +222,7 @@ var newer = []struct {
 `, verdict{races: []string{"racy"}}},
 }
 
-// TestNewer: what newer Go's package sync has is recorded as what it orders, where Go has it.
+// TestNewer: what newer Go has is recorded as what it does and orders, where Go has it.
 func TestNewer(t *testing.T) {
 	requireJudge(t)
 	t.Parallel()

@@ -287,7 +287,8 @@ func TestPredictInSegments(t *testing.T) {
 	if status != 66 || strings.Count(out, "predicted race on total: ") != 1 || m == nil {
 		t.Fatalf("status %d\n%s%s", status, out, errs)
 	}
-	if n := strings.Count(errs, "1 races, at places that were reported before\n"); n == 0 || fmt.Sprint(n+1) != m[1] {
-		t.Errorf("%d segments that were told\n%s%s", n, out, errs)
+	racing := regexp.MustCompile(`gorec: judged in \d+ segments, (\d+) of them with races`).FindStringSubmatch(out)
+	if !strings.Contains(errs, ": only races at places that were reported before\n") || racing == nil || racing[1] != m[1] || m[1] == "1" {
+		t.Errorf("%s segments with races that were predicted\n%s%s", m[1], out, errs)
 	}
 }

@@ -51,11 +51,15 @@ func calledBack(object unsafe.Pointer, s *Site) func() {
 	}
 	k, g := callback{by, object}, current(s)
 	begin()
-	g.acquire(callbacks[k], s)
+	before := callbacks[k]
+	g.acquire(before, s)
 	mu.Unlock()
 	return func() {
 		g := current(s)
 		begin()
+		if ended := callbacks[k]; ended != before {
+			g.acquire(ended, s) // of a call beside this one, which the next is to be behind too
+		}
 		callbacks[k] = g.release(s)
 		mu.Unlock()
 	}

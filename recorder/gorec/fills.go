@@ -55,8 +55,8 @@ func (w *walk) compareMap(v reflect.Value) {
 	if p == nil || !v.CanInterface() {
 		return
 	}
-	defer w.g.hold(p, 1).release()
-	bits, sh := contentsOf(v), shardOf(p)
+	defer w.g.holdMap(p).release()
+	bits, sh := contentsOf(v), shardOfMap(p)
 	l := &sh.entries[sh.locate(p, wire.VarMap)]
 	switch {
 	case w.settle:

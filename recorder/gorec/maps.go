@@ -18,7 +18,7 @@ func (o user) touch(p unsafe.Pointer, kind wire.VarKind, change bool) {
 	if change {
 		op = wire.Write
 	}
-	sh := shardOf(p)
+	sh := shardOfMap(p)
 	l := &sh.entries[sh.locate(p, kind)]
 	l.age = sh.age
 	if change {
@@ -34,7 +34,7 @@ func (o user) touch(p unsafe.Pointer, kind wire.VarKind, change bool) {
 // use is touch, with the lock.
 func (g *G) use(p unsafe.Pointer, kind wire.VarKind, change bool, s *Site) {
 	o := g.at(s)
-	h := g.hold(p, 1)
+	h := g.holdMap(p)
 	o.touch(p, kind, change)
 	h.release()
 }
@@ -89,16 +89,28 @@ func (x Mapping[K, V]) Lookup(k K) (v V, ok bool) {
 		v, ok = x.m[k]
 		return v, ok
 	}
-	o := user{g: current(x.s), s: x.s}
-	repeats := o.g.hasRead(x.pointer(), 1)
-	if !repeats {
-		o = o.g.at(x.s)
+	g := current(x.s)
+	if g.hasRead(x.pointer(), unsafe.Sizeof(x.m)) {
+		return x.lookUpAgain(k, g)
 	}
-	defer o.g.hold(x.pointer(), 1).release() // a key that can't be hashed panics
+	o := g.at(x.s)
+	defer g.holdMap(x.pointer()).release() // a key that can't be hashed panics
 	v, ok = x.m[k]
-	if !repeats {
-		o.touch(x.pointer(), wire.VarMap, false)
+	o.touch(x.pointer(), wire.VarMap, false)
+	return v, ok
+}
+
+// lookUpAgain is a look-up by who has looked up there already.
+func (x Mapping[K, V]) lookUpAgain(k K, g *G) (v V, ok bool) {
+	if g.beginLookup(x.pointer()) {
+		defer g.endUnlocked()
+		v, ok = x.m[k]
+		return v, ok
 	}
+	h := g.holdMap(x.pointer())
+	defer h.release()
+	v, ok = x.m[k]
+	h.first.lookedUpAt(x.pointer())
 	return v, ok
 }
 
@@ -109,7 +121,7 @@ func (x Mapping[K, V]) Set(k K, v V) {
 		return
 	}
 	o := current(x.s).at(x.s)
-	defer o.g.hold(x.pointer(), 1).release()
+	defer o.g.holdToChange(x.pointer()).release()
 	x.m[k] = v
 	o.touch(x.pointer(), wire.VarMap, true)
 }
@@ -121,7 +133,7 @@ func (x Mapping[K, V]) Delete(k K) {
 		return
 	}
 	o := current(x.s).at(x.s)
-	defer o.g.hold(x.pointer(), 1).release()
+	defer o.g.holdToChange(x.pointer()).release()
 	delete(x.m, k)
 	o.touch(x.pointer(), wire.VarMap, true)
 }
@@ -132,7 +144,7 @@ func (x Mapping[K, V]) Len() int {
 		return len(x.m)
 	}
 	o := current(x.s).at(x.s)
-	defer o.g.hold(x.pointer(), 1).release()
+	defer o.g.holdMap(x.pointer()).release()
 	o.touch(x.pointer(), wire.VarMap, false)
 	return len(x.m)
 }
@@ -205,7 +217,7 @@ func (it *Iteration[K, V]) Len() int {
 		return it.steps
 	}
 	o := current(it.x.s).at(it.x.s)
-	defer o.g.hold(it.x.pointer(), 1).release()
+	defer o.g.holdMap(it.x.pointer()).release()
 	if it.step() {
 		o.touch(it.x.pointer(), wire.VarMap, false)
 	}

@@ -267,7 +267,7 @@ func (w *walk) mapping(v reflect.Value, depth int) {
 
 // inMap are a map's keys and values, which nobody changes meanwhile.
 func (w *walk) inMap(v reflect.Value) (all []reflect.Value) {
-	defer w.g.hold(v.UnsafePointer(), 1).release()
+	defer w.g.holdMap(v.UnsafePointer()).release()
 	for it := v.MapRange(); it.Next() && len(all) < 2*w.left; {
 		all = append(all, it.Key(), it.Value())
 	}

@@ -106,22 +106,31 @@ func (o user) readsShown(p unsafe.Pointer, size uintptr) bool {
 	if shown == 0 || uint32(shown) != sign(p, kind, bitsOf(p, size)) {
 		return false
 	}
-	g := o.g
-	if barred {
-		g.unlocked = 1 // before another part is looked for
-	} else {
-		atomic.StoreUint32(&g.unlocked, 1)
-	}
-	recorded := g.part == atomic.LoadUint32(&part) && atomic.LoadUint32(&full) == 0
+	recorded := o.g.beginUnlocked()
 	if recorded {
 		o.put(wire.Read, uint32(shown>>32), bytes)
-		g.does()
+		o.g.does()
 	}
-	g.unlocked = 0 // after the record, since the processor writes in order
+	o.g.endUnlocked()
 	return recorded
 }
 
-// awaitReaders has all locks, and full is set: nobody begins to read without one.
+// beginUnlocked has others wait for g in awaitReaders until endUnlocked. It reports whether g may
+// read without a lock.
+func (g *G) beginUnlocked() bool {
+	if barred {
+		g.unlocked = 1 // before anything is looked for
+	} else {
+		atomic.StoreUint32(&g.unlocked, 1)
+	}
+	return g.part == atomic.LoadUint32(&part) && atomic.LoadUint32(&full) == 0
+}
+
+func (g *G) endUnlocked() {
+	g.unlocked = 0 // after the reads and the record, since the processor works in that order
+}
+
+// awaitReaders has mu, and has seen to it that nobody begins to read without a lock.
 func awaitReaders() {
 	if barred {
 		bar(barNow)

@@ -37,7 +37,11 @@ type shard struct {
 	fresh int // that were met at this age
 	last  int // where the last one was found
 	age   uint8
-	_     [55]byte // no other one's lock is in the same line of a processor's cache
+
+	lookedUp uintptr // the last map that was looked up in without a record
+	times    int     // in a row
+
+	_ [32]byte // no other one's lock is in the same line of a processor's cache
 }
 
 type table struct {
@@ -53,12 +57,23 @@ func shardOf(p unsafe.Pointer) *shard {
 	return &shards[uintptr(p)>>blockBits*0x9e3779b97f4a7c15>>(64-shardBits)]
 }
 
+// shardOfMap is that of a map, or of other contents that are told by an address. Small ones stand
+// beside one another in a block, so those that goroutines have for themselves would share a lock.
+func shardOfMap(p unsafe.Pointer) *shard {
+	return &shards[uintptr(p)>>4*0x9e3779b97f4a7c15>>(64-shardBits)]
+}
+
 // held are the locks of what is accessed: one or two, or all where first is nil.
 type held struct{ first, second *shard }
 
-// hold takes the locks of memory, in a part in which the goroutine is, and that has room.
-func (g *G) hold(p unsafe.Pointer, size uintptr) held {
-	h := locksOf(p, size)
+// hold takes the locks of memory.
+func (g *G) hold(p unsafe.Pointer, size uintptr) held { return g.take(locksOf(p, size)) }
+
+// holdMap takes the lock of a map.
+func (g *G) holdMap(p unsafe.Pointer) held { return g.take(held{first: shardOfMap(p)}) }
+
+// take takes locks, in a part in which the goroutine is, and that has room.
+func (g *G) take(h held) held {
 	for {
 		if atomic.LoadUint32(&full) != 0 {
 			begin()

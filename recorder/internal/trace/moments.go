@@ -168,7 +168,11 @@ func (f *follower) follow(r *wire.Record) {
 	if what == "" {
 		return
 	}
-	d := Deed{What: what + f.name(r.Object), Place: place}
+	name := f.name(r.Object)
+	if name == "" { // as of what the standard library orders
+		what = strings.TrimSuffix(what, " through ")
+	}
+	d := Deed{What: what + name, Place: place}
 	if o := &f.objects[r.Object]; o.op == wire.DeclareLock && o.name == "" {
 		d.LeftOut = f.name(r.Object)
 	}

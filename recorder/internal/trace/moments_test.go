@@ -39,6 +39,8 @@ func TestMoments(t *testing.T) {
 		{Op: wire.Acquire, Object: 5, Site: group + 1},
 		{Op: wire.Read, Object: 1, Site: x, Value: 3},               // E
 		{Op: wire.Read, Object: 1, Goroutine: 2, Site: x, Value: 3}, // F
+		{Op: wire.Release, Object: 6, Site: start},
+		{Op: wire.Read, Object: 1, Site: x, Value: 3}, // G
 	}
 	var b strings.Builder
 	if _, err := Write(records, table, Options{Version: 1}, &b); err != nil {
@@ -70,6 +72,7 @@ func TestMoments(t *testing.T) {
 		"after rlock of mu at mu.go:1, last receive from c at c.go:2",
 		"without a lock, after synchronization through group at group.go:2",
 		"without a lock, after synchronization through group at group.go:1",
+		"without a lock, after synchronization at .go:1",
 	} {
 		if i >= len(accesses) {
 			t.Fatalf("%d accesses\n%s", len(accesses), b.String())

@@ -15,6 +15,8 @@ import (
 	"path/filepath"
 	"sort"
 	"strings"
+	"unicode"
+	"unicode/utf8"
 
 	"gorace.local/recorder/internal/load"
 	"gorace.local/recorder/internal/sites"
@@ -220,11 +222,20 @@ func (r *rewriter) isTest(d *ast.FuncDecl) bool {
 		return false
 	}
 	for _, k := range testKinds {
-		if strings.HasPrefix(d.Name.Name, k.begin) && param == k.param {
+		if isNameOf(d.Name.Name, k.begin) && param == k.param {
 			return true
 		}
 	}
 	return false
+}
+
+// isNameOf reports whether package testing calls functions of that name, as TestX but not Testify.
+func isNameOf(name, begin string) bool {
+	if !strings.HasPrefix(name, begin) {
+		return false
+	}
+	next, _ := utf8.DecodeRuneInString(name[len(begin):])
+	return !unicode.IsLower(next)
 }
 
 // place is a line of the source, as the command go prints it.

@@ -5,6 +5,7 @@ import (
 	"go/ast"
 	"go/token"
 	"go/types"
+	"strings"
 )
 
 func (r *rewriter) block(b *ast.BlockStmt) {
@@ -263,7 +264,7 @@ func commaBefore(args string) string {
 
 // startedBuiltin is a builtin function that a goroutine is started with.
 func (r *rewriter) startedBuiltin(s *ast.GoStmt, call, args string) (string, string) {
-	switch call {
+	switch call = strings.Trim(call, "( )"); call {
 	case "close":
 		return "gorec.Close", args + ", " + r.site(s, "")
 	case "panic", "print", "println", "recover":

@@ -5,6 +5,7 @@ import (
 	"os"
 	"path/filepath"
 	"reflect"
+	"regexp"
 	"runtime"
 	"sort"
 	"strings"
@@ -76,7 +77,14 @@ func record(t *testing.T, f func()) map[uint32]string {
 	}
 	f()
 	stop()
-	b, err := os.ReadFile(path)
+	told, err := os.Create(path + ".told")
+	if err == nil {
+		err = gorec.TellCalls(path, told)
+	}
+	if err != nil {
+		t.Fatal(err)
+	}
+	b, err := os.ReadFile(told.Name())
 	if err != nil {
 		t.Fatal(err)
 	}
@@ -94,47 +102,19 @@ func record(t *testing.T, f func()) map[uint32]string {
 	return lines
 }
 
-// TestKnownCalls: what is written of a stack is what the runtime tells of it, whether its calls
-// were known or not.
-func TestKnownCalls(t *testing.T) {
+// wrappers are functions that the runtime leaves out, and Go's detector tells.
+var wrappers = regexp.MustCompile(`\t(runtime\.call\d+|testing\.\(\*T\)\.Run\.(func|gowrap)\d)\t[^\t]*`)
+
+// TestCalls: what is told of a stack is what the runtime tells of it.
+func TestCalls(t *testing.T) {
 	s := &shape{}
 	lines := record(t, s.all)
 	for _, spot := range s.spots {
-		if got := lines[spot.number]; got != spot.calls {
+		if got := wrappers.ReplaceAllString(lines[spot.number], ""); got != spot.calls {
 			t.Errorf("stack %d:%s\nnot%s", spot.number, got, spot.calls)
 		}
 	}
 	if len(lines) < 100 {
 		t.Errorf("%d stacks", len(lines))
-	}
-}
-
-// TestAskedOnce: the runtime isn't asked for a new stack of known calls.
-func TestAskedOnce(t *testing.T) {
-	s := &shape{}
-	before := 0
-	lines := record(t, func() {
-		for _, depth := range []int{10, 20} {
-			before = len(s.spots)
-			s.again(depth)
-			gorec.ChangeKnown(strings.ToUpper)
-		}
-	})
-	known := map[uint32]bool{}
-	for _, spot := range s.spots[:before] {
-		known[spot.number] = true
-	}
-	asked, fresh := 0, 0
-	for _, spot := range s.spots[before:] {
-		if known[spot.number] {
-			continue
-		}
-		fresh++
-		if text := lines[spot.number]; text == "" || text != strings.ToUpper(text) {
-			asked++
-		}
-	}
-	if fresh < 30 || asked > 0 {
-		t.Errorf("the runtime was asked for %d of %d", asked, fresh)
 	}
 }

@@ -1,23 +1,18 @@
 package gorec
 
+import "os"
+
 // RecordStacks has stacks written to a file, until what it answers is called.
 func RecordStacks(path string) (stop func(), err error) {
 	if !hasFramePointers {
 		return nil, nil
 	}
 	err = openStacks(path)
-	return func() {
-		stackFile.Close()
-		stackFile = nil
-	}, err
+	return func() { stackFile, stacks = nil, map[stackKey]uint32{} }, err
 }
 
 // StackNumber is that of the calls that led here.
 func StackNumber() uint32 { return stackNumber() }
 
-// ChangeKnown changes what is kept of each call.
-func ChangeKnown(change func(text string) string) {
-	for _, c := range calls {
-		c.text = change(c.text)
-	}
-}
+// TellCalls writes the stacks of a file.
+func TellCalls(path string, to *os.File) error { return tellCalls(path, to) }

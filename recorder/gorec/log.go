@@ -60,6 +60,12 @@ func init() {
 	mainGoroutine.g = getg()
 	mainGoroutine.of = mainGoroutine
 	setLabel(unsafe.Pointer(&mainGoroutine.tag))
+	if path := os.Getenv("GOREC_CALLS"); path != "" {
+		if err := tellCalls(path, os.NewFile(3, "calls")); err != nil {
+			os.Exit(3)
+		}
+		os.Exit(0)
+	}
 	path := os.Getenv("GOREC_LOG")
 	if path == "" {
 		return

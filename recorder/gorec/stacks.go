@@ -2,15 +2,17 @@ package gorec
 
 import (
 	"os"
-	"strconv"
+	"reflect"
 	"sync"
 	"sync/atomic"
+	"syscall"
 	"unsafe"
 )
 
 // Stacks are told by the return addresses on them, which stand where the frame pointers
-// lead. A stack that is met for the first time is numbered, and its functions and places go
-// to a file: a line for each stack.
+// lead. A stack that is met for the first time is numbered, and its addresses go to a file: what
+// stands there is told once a race is (calls.go), since that takes ten times as long, and a program
+// may look at the time.
 
 const (
 	deepest    = 64      // calls of a stack are told apart, and written
@@ -21,21 +23,51 @@ const (
 type stackKey uint64
 
 var (
-	stackFile    *os.File // nil: none is wanted
+	stackFile    []uintptr // nil: none is wanted
+	stackWords   int       // of it are written
 	stacksLock   sync.Mutex
 	stacks       = map[stackKey]uint32{}
-	stackLine    []byte          // the last one that was written
 	recentStacks [1 << 10]uint64 // before that table: all of a key but its last bits, and the number
 )
 
 // numberBits are those of a stack's number.
 const numberBits = 17
 
-func openStacks(path string) (err error) {
-	if path != "" && hasFramePointers {
-		stackFile, err = os.Create(path)
+// openStacks makes the file: where a function is, and for each stack one more than its calls are, and
+// their addresses.
+func openStacks(path string) error {
+	if path == "" || !hasFramePointers {
+		return nil
 	}
-	return err
+	f, err := os.OpenFile(path, os.O_RDWR|os.O_CREATE|os.O_TRUNC, 0o644)
+	if err != nil {
+		return err
+	}
+	defer f.Close()
+	if err := f.Truncate((1 + mostStacks*(1+deepest)) * int64(unsafe.Sizeof(uintptr(0)))); err != nil {
+		return err
+	}
+	stackFile, err = mapStacks(f, syscall.PROT_READ|syscall.PROT_WRITE)
+	if err != nil {
+		return err
+	}
+	stackFile[0], stackWords = aFunction(), 1
+	return nil
+}
+
+// aFunction is where one of this program is: not in each run at the same place.
+func aFunction() uintptr { return reflect.ValueOf(openStacks).Pointer() }
+
+func mapStacks(f *os.File, allowed int) ([]uintptr, error) {
+	about, err := f.Stat()
+	if err != nil {
+		return nil, err
+	}
+	b, err := syscall.Mmap(int(f.Fd()), 0, int(about.Size()), allowed, syscall.MAP_SHARED)
+	if err != nil {
+		return nil, err
+	}
+	return unsafe.Slice((*uintptr)(unsafe.Pointer(&b[0])), len(b)/int(unsafe.Sizeof(uintptr(0)))), nil
 }
 
 // stackNumber is that of the calls that led here, 0 where none are wanted.
@@ -66,7 +98,7 @@ func numberOf(key stackKey) uint32 {
 	if !known && len(stacks) < mostStacks {
 		id = uint32(len(stacks) + 1)
 		stacks[key] = id
-		writeStack(id)
+		writeStack()
 	}
 	return id
 }
@@ -92,24 +124,13 @@ func followReturns(returns *[deepest]uintptr) int {
 	return n
 }
 
-// writeStack writes the calls that led here, those of the recorder itself left out: function
-// and place, function and place.
+// writeStack writes the return addresses on the stack.
 //
 //go:noinline
-func writeStack(id uint32) {
+func writeStack() {
 	var all [deepest]uintptr
-	returns := all[:followReturns(&all)]
-	if len(returns) > 0 {
-		returns = returns[1:] // the first one is here
-	}
-	line := strconv.AppendUint(stackLine[:0], uint64(id), 10)
-	if areKnown(returns) {
-		for _, pc := range returns {
-			line = append(line, calls[pc].text...)
-		}
-	} else {
-		line = learn(line, returns)
-	}
-	stackLine = append(line, '\n')
-	stackFile.Write(stackLine)
+	n := followReturns(&all)
+	copy(stackFile[stackWords+1:], all[:n])
+	atomic.StoreUintptr(&stackFile[stackWords], uintptr(n)+1) // behind them, so that a stack is whole
+	stackWords += 1 + n
 }

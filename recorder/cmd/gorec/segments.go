@@ -171,7 +171,7 @@ func (j *judging) judgeSegment(s *trace.Segments, command []string, options trac
 		if o.moments, err = s.Moments(j.t.copied.Sites, options, o.events()); err != nil {
 			return err
 		}
-		o.stacks = readStacks(j.log + stacksSuffix)
+		o.stacks = readStacks(j.t.file, j.log+stacksSuffix)
 	}
 	isNew := j.isNew(o)
 	if isNew {

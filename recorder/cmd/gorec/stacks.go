@@ -2,12 +2,15 @@ package main
 
 import (
 	"bufio"
+	"context"
 	"fmt"
 	"io"
 	"os"
+	"os/exec"
 	"path/filepath"
 	"strconv"
 	"strings"
+	"time"
 )
 
 // stacksSuffix is behind the name of a log in that of the file with its stacks.
@@ -19,16 +22,36 @@ type frame struct{ Function, Place string }
 // stackTable has the stacks of a run by their numbers.
 type stackTable map[uint32][]frame
 
-// readStacks reads what the recorded program wrote: a line for each stack, with its number,
-// and a function and a place for each call. Where there is no file there are no stacks.
-func readStacks(path string) stackTable {
-	f, err := os.Open(path)
+// longestTelling is how long a program may take to tell its stacks.
+const longestTelling = time.Minute
+
+// readStacks has the program tell the stacks that it wrote: a line for each, with its number, and a
+// function and a place for each call. Where there is no file there are no stacks.
+func readStacks(program, path string) stackTable {
+	if _, err := os.Stat(path); err != nil {
+		return nil
+	}
+	in, out, err := os.Pipe()
 	if err != nil {
 		return nil
 	}
-	defer f.Close()
+	defer in.Close()
+	limit, stop := context.WithTimeout(context.Background(), longestTelling)
+	defer stop()
+	cmd := exec.CommandContext(limit, program)
+	cmd.Env, cmd.ExtraFiles = append(os.Environ(), "GOREC_CALLS="+path), []*os.File{out}
+	err = cmd.Start()
+	out.Close()
+	if err != nil {
+		return nil
+	}
+	defer cmd.Wait()
+	return parseStacks(in)
+}
+
+func parseStacks(from io.Reader) stackTable {
 	t := stackTable{}
-	in := bufio.NewScanner(f)
+	in := bufio.NewScanner(from)
 	in.Buffer(nil, 1<<20)
 	for in.Scan() {
 		words := strings.Split(in.Text(), "\t")

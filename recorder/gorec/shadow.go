@@ -90,20 +90,20 @@ func (l *location) show(p unsafe.Pointer) {
 	}
 }
 
-// readsShown reports whether a read was recorded without a lock. The location has at most eight
-// bytes.
-func (o user) readsShown(p unsafe.Pointer, size uintptr) bool {
+// readsShown reports whether a read of what stands at value, which came from p, was recorded without a
+// lock. What others were writing meanwhile isn't what they show.
+func (o user) readsShown(p, value unsafe.Pointer, size uintptr) bool {
 	bytes, kind := uint8(whole), wire.VarMemory
 	if size == 1 {
 		p, bytes, _ = wordAt(p, 1)
-		size, kind = 8, inWord
+		value, size, kind = p, 8, inWord
 	}
 	s := shadowOf(p)
 	if s == nil {
 		return false
 	}
 	shown := atomic.LoadUint64(s)
-	if shown == 0 || uint32(shown) != sign(p, kind, bitsOf(p, size)) {
+	if shown == 0 || uint32(shown) != sign(p, kind, bitsOf(value, size)) {
 		return false
 	}
 	recorded := o.g.beginUnlocked()

@@ -3,6 +3,7 @@ package gorec
 import (
 	"sync/atomic"
 	"testing"
+	"time"
 	"unsafe"
 )
 
@@ -10,9 +11,7 @@ import (
 // recorded write wrote.
 func TestReadsShown(t *testing.T) {
 	log := record(t)
-	if shadow == nil {
-		t.Skip("no shadow")
-	}
+	mustHaveShadow(t)
 	x, b, ts := new(int), make([]byte, 8), newTurns(t, 2)
 	if shadowOf(unsafe.Pointer(x)) == nil || shadowOf(unsafe.Pointer(&b[0])) == nil {
 		t.Fatal("memory of the heap has no shadow")
@@ -45,6 +44,47 @@ func TestReadsShown(t *testing.T) {
 	ts.do(0, func() { step(0); Read(x, &sites[5]) })
 	if log() != "w1 w2 w2 w2 w2 w2 w2 w2 w2 r3 r4 - ? r5" {
 		t.Errorf("what another wrote: %s", log())
+	}
+}
+
+// That is so of strings, slices and interfaces too.
+func TestWordsShown(t *testing.T) {
+	log := record(t)
+	mustHaveShadow(t)
+	s, a, x, ts := new(string), new([]int), new(any), newTurns(t, 2)
+	first, second := &Site{ID: 1}, &Site{ID: 2}
+	ts.do(0, func() {
+		To(s, first).Set("text")
+		To(a, first).Set([]int{1, 2})
+		To(x, first).Set(3)
+	})
+	ts.do(1, func() { // which makes them known to several
+		Read(s, second)
+		Read(a, second)
+		Read(x, second)
+		step(0)
+	})
+	lockAll()
+	done := make(chan bool)
+	go func() {
+		ts.do(1, func() {
+			if Read(s, second) != "text" || len(Read(a, second)) != 2 || Read(x, second) != 3 {
+				t.Error("another value")
+			}
+		})
+		close(done)
+	}()
+	select {
+	case <-done:
+	case <-time.After(10 * time.Second):
+		t.Error("a read waits for a lock")
+	}
+	unlockAll()
+	<-done
+	*s = "texts"
+	ts.do(1, func() { step(0); Read(s, second) })
+	if log() != "w1 w1 w1 r2 r2 r2 - r2 r2 r2 - ? r2" {
+		t.Error(log())
 	}
 }
 

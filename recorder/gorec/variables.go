@@ -88,8 +88,10 @@ func readBy[T any](p *T, o user) (v T) {
 			return v
 		}
 	}
-	if l.single != 0 && l.single <= 8 && o.readsShown(unsafe.Pointer(p), l.single) {
-		return *p
+	if l.single != 0 {
+		if v = *p; o.readsShown(unsafe.Pointer(p), unsafe.Pointer(&v), l.single) {
+			return v
+		}
 	}
 	h := o.g.hold(unsafe.Pointer(p), unsafe.Sizeof(*p))
 	v = *p

@@ -8,8 +8,8 @@
 // (shards.go). So the records of steps stand in an order in which these did happen one after
 // another, and each access says after how many of the records written with mu (steps) it comes. What
 // can wait never waits with a lock held. Accesses that repeat others and have no record are done without one
-// (repeats.go), as are most of a loop over bytes (loops.go) and most reads of what several
-// goroutines use (shadow.go).
+// (repeats.go), as are most of a loop over bytes (loops.go), most reads of what several goroutines
+// use (shadow.go) and most look-ups in a map that nobody changes (lookups.go).
 //
 // alone and current (goroutines.go) tell who runs.
 // Read (variables.go) comes by user.read (locations.go) to accessed (exclusive.go), which keeps

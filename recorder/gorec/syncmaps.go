@@ -94,10 +94,19 @@ func (x SyncMapAt) Clear() {
 	x.do(cleared{}, func() int { any(x.m).(interface{ Clear() }).Clear(); return stores })
 }
 
-// Range finds each key that it visits.
+// Range finds each key that it visits, with the value that it has by then: who has stored that comes
+// before, and nobody is known who stored an earlier one.
 func (x SyncMapAt) Range(f func(k, v any) bool) {
 	x.m.Range(func(k, v any) bool {
-		x.do(k, func() int { return loads })
-		return f(k, v)
+		gone := false
+		x.do(k, func() int {
+			if now, ok := x.m.Load(k); ok {
+				v = now
+			} else {
+				gone = k == k // else it isn't a number, which no look-up finds
+			}
+			return loads
+		})
+		return gone || f(k, v)
 	})
 }

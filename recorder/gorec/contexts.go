@@ -15,7 +15,7 @@ import (
 // goroutine of its own, which is started where the context is made.
 type doneChannel struct {
 	channel  *channel
-	timer    *G
+	timer    *G // or the test's, where it is a test's context
 	children []*doneChannel
 	by       *G // who is about to cancel it, at a place
 	at       *Site
@@ -126,9 +126,13 @@ func newDone(parent, ctx context.Context, own *ownParent, deadline bool, s *Site
 	}
 	if up != nil && up.done != nil {
 		up.done.children = append(up.done.children, d)
-		if up.closed { // canceled at birth
+		switch {
+		case up.closed: // canceled at birth
+			g.findsDone(up, s)
 			d.close(g, s)
-		} else if d.timer == nil {
+		case up.done.by != nil: // which may have missed it
+			d.cancels(up.done.by, up.done.at)
+		case d.timer == nil:
 			d.timer = up.done.timer
 		}
 	}
@@ -290,29 +294,34 @@ func followTest(t any, s *Site) {
 	if d := newDone(context.Background(), x.Context(), nil, false, s); d != nil {
 		g := current(s)
 		begin()
-		d.cancels(g, s)
+		d.timer = g
 		mu.Unlock()
 	}
 }
 
-// AfterDone is context.AfterFunc, which is handed to it: what it starts comes behind what ended the
-// context.
+// AfterDone is context.AfterFunc, which is handed to it: what it starts comes behind its call, and behind
+// what ended the context.
 func AfterDone(after func(context.Context, func()) func() bool, s *Site) func(context.Context, func()) func() bool {
 	return func(ctx context.Context, f func()) func() bool {
+		if off {
+			return after(ctx, f)
+		}
+		g := current(s)
+		begin()
+		order := g.release(s)
+		mu.Unlock()
 		return after(ctx, func() {
-			foundDone(ctx, s)
+			foundDone(ctx, order, s)
 			f()
 		})
 	}
 }
 
-func foundDone(ctx context.Context, s *Site) {
-	if off {
-		return
-	}
+func foundDone(ctx context.Context, order uint32, s *Site) {
 	done, g := ctx.Done(), current(s)
 	begin()
 	defer mu.Unlock()
+	g.acquire(order, s)
 	switch ch := channels[pointerTo(unsafe.Pointer(&done))]; {
 	case ch == nil:
 	case ch.done != nil:

@@ -169,10 +169,15 @@ func (d *doneChannel) close(g *G, s *Site) {
 	}
 }
 
-// cancels has the lock: g is about to cancel the context.
+// cancels has the lock: g is about to cancel the context. If another one is too, nobody knows which of
+// the two does: that one comes behind g, so who finds the context done comes behind both.
 func (d *doneChannel) cancels(g *G, s *Site) {
-	if d.by == nil {
+	_, goesOn := goingOn[d.by]
+	switch {
+	case d.by == nil:
 		d.by, d.at = g, s
+	case d.by != g && goesOn && !d.channel.closed:
+		d.by.acquire(g.release(s), d.at)
 	}
 	for _, c := range d.children {
 		c.cancels(g, s)

@@ -24,6 +24,9 @@ var callbacks = map[callback]uint32{}
 // callers are the packages, and whether calls for one object follow one another alone.
 var callers = map[string]bool{"log": true, "log/slog": true, "net/http": true, "database/sql": false}
 
+// passers are packages that call for who calls them, as the Writer of io.MultiWriter does for log.
+var passers = map[string]bool{"io": true, "bufio": true}
+
 // callerOf has the packages by the places that call: a map that another one replaces, so that it is
 // read without the lock.
 var callerOf atomic.Value
@@ -42,6 +45,9 @@ func calledBack(object unsafe.Pointer, s *Site) func() {
 	var at [2]uintptr
 	runtime.Callers(4, at[:]) // behind Callers, calledBack, Called and the method
 	by := packageAt(at)
+	if passers[by] {
+		by = packageBefore()
+	}
 	each, known := callers[by]
 	if !known {
 		return func() {}
@@ -71,11 +77,7 @@ func packageAt(at [2]uintptr) string {
 		return by
 	}
 	f, _ := runtime.CallersFrames(at[:]).Next()
-	folder := strings.LastIndex(f.Function, "/") + 1
-	by := f.Function
-	if dot := strings.Index(by[folder:], "."); dot >= 0 {
-		by = by[:folder+dot]
-	}
+	by := packageOf(f.Function)
 	begin()
 	defer mu.Unlock()
 	more := map[[2]uintptr]string{at: by}
@@ -84,6 +86,28 @@ func packageAt(at [2]uintptr) string {
 	}
 	callerOf.Store(more)
 	return by
+}
+
+// packageBefore is the last package that calls by means of others, if calledBack asks.
+func packageBefore() (by string) {
+	var at [16]uintptr
+	frames := runtime.CallersFrames(at[:runtime.Callers(5, at[:])])
+	for more := true; more; {
+		var f runtime.Frame
+		f, more = frames.Next()
+		if by = packageOf(f.Function); !passers[by] {
+			break
+		}
+	}
+	return by
+}
+
+func packageOf(function string) string {
+	folder := strings.LastIndex(function, "/") + 1
+	if dot := strings.Index(function[folder:], "."); dot >= 0 {
+		return function[:folder+dot]
+	}
+	return function
 }
 
 func knownCallers() map[[2]uintptr]string {

@@ -141,9 +141,23 @@ func Handler(s *Site) func() {
 // Answers is a ResponseWriter that is used: from here on the client may have been answered.
 func Answers[W any](w W, s *Site) W {
 	if !off {
-		current(s).keepSilent(false)
+		current(s).answers()
 	}
 	return w
+}
+
+// answers is for each handler where g is in none: it may be any that has started g, or handed it the
+// ResponseWriter.
+func (g *G) answers() {
+	if g.handles > 0 {
+		g.keepSilent(false)
+		return
+	}
+	begin()
+	for h := range adopted {
+		h.silent = false
+	}
+	mu.Unlock()
 }
 
 func (g *G) keepSilent(is bool) {

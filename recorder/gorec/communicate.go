@@ -56,10 +56,34 @@ func (g *G) try(s *Site, cases []communication) (index int, panics bool) {
 }
 
 func (g *G) tryForeign(s *Site, c communication) (did, panics bool) {
-	if did, panics = carefully(c); did && !panics && !c.state().send {
+	did, panics = carefully(c)
+	if !did {
+		return g.joinForeign(c), false
+	}
+	if !panics && !c.state().send {
 		g.acquire(c.state().channel.order, s)
 	}
 	return did, panics
+}
+
+// joinForeign has g meet who tries on a foreign channel without a buffer too: two that only try never
+// find each other.
+func (g *G) joinForeign(c communication) bool {
+	send, others := c.state().send, &c.state().channel.senders
+	if send {
+		others = &c.state().channel.takers
+	}
+	o := others.longest(g)
+	if o == nil || c.plain().Chan.Cap() > 0 {
+		return false
+	}
+	if send {
+		o.self.fill(c.value(), true)
+	} else {
+		c.fill(o.self.value(), true)
+	}
+	o.finish()
+	return true
 }
 
 // carefully is a try on a channel that may be closed.

@@ -79,7 +79,7 @@ func (g *G) wait(s *Site, cases []communication, polls bool) *waiter {
 		o := c.state()
 		o.waiter = w
 		switch {
-		case o.channel == nil || o.channel.foreign:
+		case o.channel == nil:
 		case o.send:
 			o.channel.senders.add(o)
 		default:

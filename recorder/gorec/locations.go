@@ -65,7 +65,7 @@ func layoutOf(t reflect.Type) *layout {
 }
 
 func (l *layout) add(t reflect.Type, offset uintptr) {
-	if p := t.PkgPath(); p == "sync" || p == "sync/atomic" {
+	if p := t.PkgPath(); (p == "sync" || p == "sync/atomic") && t.Kind() != reflect.Interface {
 		return // used by their methods, which are recorded as what they are
 	}
 	switch t.Kind() {

@@ -1,0 +1,24 @@
+// races: l
+
+package main
+
+import (
+	"fmt"
+	"sync"
+)
+
+// A Locker is a variable as others are.
+var l sync.Locker
+
+func main() {
+	var mu sync.RWMutex
+	l = &mu
+	done := make(chan bool)
+	go func() {
+		l = mu.RLocker()
+		done <- true
+	}()
+	l.Lock()
+	l.Unlock()
+	fmt.Println(<-done)
+}

@@ -3,6 +3,7 @@ package gorec
 import (
 	"reflect"
 	"strings"
+	"sync"
 )
 
 // Goroutines also meet where a Reader or a Writer stands before a file or a connection, or
@@ -19,27 +20,58 @@ var outlets = map[string]bool{
 var passing = map[string][]string{
 	"*bufio.Reader": {"rd"}, "*bufio.Writer": {"wr"}, "*bufio.Scanner": {"r"}, "*csv.Reader": {"r"}, "*csv.Writer": {"w"},
 	"*json.Decoder": {"r", "dec.s.rd"}, "*json.Encoder": {"w"}, "*tabwriter.Writer": {"output"},
-	"*gob.Decoder": {"r"}, "*gob.Encoder": {"w"}, "*xml.Decoder": {"r"}, "*xml.Encoder": {"p.Writer", "p.w"},
+	"*http.connReader": {"conn.rwc"}, "*gob.Decoder": {"r"}, "*gob.Encoder": {"w"}, "*xml.Decoder": {"r"}, "*xml.Encoder": {"p.Writer", "p.w"},
 }
 
 // outletOf is the file's or the connection's type that a Reader or a Writer is of, or that it
 // stands before, or "".
-func outletOf(v reflect.Value) string {
-	for {
-		for v.IsValid() && v.Kind() == reflect.Interface {
-			v = v.Elem()
-		}
-		if !v.IsValid() || v.Kind() != reflect.Pointer || v.IsNil() {
-			return ""
-		}
-		t := v.Type().String()
-		if outlets[t] {
-			return t
-		}
-		if v = before(v, passing[t]); v.Kind() == reflect.Slice && v.Len() > 0 { // of a gob.Encoder
+func outletOf(v reflect.Value) string { return outletWithin(v, 8) }
+
+// outletWithin is that to which so many steps lead at most, as something may lead to itself.
+func outletWithin(v reflect.Value, steps int) string {
+	for v.IsValid() && v.Kind() == reflect.Interface {
+		v = v.Elem()
+	}
+	if !v.IsValid() || v.Kind() == reflect.Pointer && v.IsNil() || steps == 0 {
+		return ""
+	}
+	t := v.Type().String()
+	if outlets[t] {
+		return t
+	}
+	if ways := passing[t]; ways != nil {
+		if v = before(v, ways); v.Kind() == reflect.Slice && v.Len() > 0 { // of a gob.Encoder
 			v = v.Index(0)
 		}
+		return outletWithin(v, steps-1)
 	}
+	for _, field := range embeddedIn(v.Type()) {
+		if to := outletWithin(reflect.Indirect(v).Field(field), steps-1); to != "" {
+			return to
+		}
+	}
+	return ""
+}
+
+// embedded are the numbers of the fields that a struct embeds, whose methods it has, by the types of
+// structs and of pointers to them.
+var embedded sync.Map
+
+func embeddedIn(t reflect.Type) (fields []int) {
+	if known, ok := embedded.Load(t); ok {
+		return known.([]int)
+	}
+	of := t
+	if t.Kind() == reflect.Pointer {
+		of = t.Elem()
+	}
+	for i := 0; of.Kind() == reflect.Struct && i < of.NumField(); i++ {
+		if of.Field(i).Anonymous {
+			fields = append(fields, i)
+		}
+	}
+	embedded.Store(t, fields)
+	return fields
 }
 
 // before is what something leads to by the first of these ways that it has.

@@ -379,25 +379,44 @@ func readsStream(full string, i int) bool {
 	return strings.Contains(full, ".Fscan") || strings.Contains(full, ".Read") || i == 1 && strings.HasPrefix(full, "io.Copy")
 }
 
-// isEnd reports whether the type is that of a file or a connection.
+// isEnd reports whether the type is that of a file or a connection, or embeds one.
 func isEnd(t types.Type) bool {
-	n, ok := pointee(t).(*types.Named)
-	if !ok || n.Obj().Pkg() == nil {
-		return false
-	}
-	name := n.Obj().Pkg().Path() + "." + n.Obj().Name()
-	return outTypes[name] || name == "io.PipeReader"
+	return isOrEmbeds(t, 8, func(t types.Type) bool {
+		n, ok := pointee(t).(*types.Named)
+		if !ok || n.Obj().Pkg() == nil {
+			return false
+		}
+		name := n.Obj().Pkg().Path() + "." + n.Obj().Name()
+		return outTypes[name] || name == "io.PipeReader"
+	})
 }
 
 // mayStream reports whether a value of the type may be a Reader or a Writer of which the recorder
 // follows what it holds, as a file is none.
 func mayStream(t types.Type) bool {
-	n, ok := pointee(t).(*types.Named)
-	if isInterface(t) || !ok || n.Obj().Pkg() == nil {
+	return isOrEmbeds(t, 8, func(t types.Type) bool {
+		n, ok := pointee(t).(*types.Named)
+		if isInterface(t) || !ok || n.Obj().Pkg() == nil {
+			return true
+		}
+		_, ok = contentTypes[n.Obj().Pkg().Path()+"."+n.Obj().Name()]
+		return ok
+	})
+}
+
+// isOrEmbeds reports whether it is so with a type, or with one that it embeds. This is so many steps away
+// at most, since a type may embed a pointer to itself.
+func isOrEmbeds(t types.Type, steps int, is func(types.Type) bool) bool {
+	if is(t) {
 		return true
 	}
-	_, ok = contentTypes[n.Obj().Pkg().Path()+"."+n.Obj().Name()]
-	return ok
+	s, _ := under(pointee(t)).(*types.Struct)
+	for i := 0; s != nil && steps > 0 && i < s.NumFields(); i++ {
+		if f := s.Field(i); f.Embedded() && isOrEmbeds(f.Type(), steps-1, is) {
+			return true
+		}
+	}
+	return false
 }
 
 // leads reports whether from a value of the type a function may come to memory.

@@ -161,6 +161,9 @@ func (r *rewriter) libraryCall(e *ast.CallExpr, sel *ast.SelectorExpr, f *types.
 		r.insert(sel.Pos(), "gorec."+contextCalls[full]+"(")
 		r.insert(sel.End(), ", "+r.site(e, "done")+")")
 		r.values(e.Args)
+	case full == "runtime.SetFinalizer":
+		r.value(e.Args[0])
+		r.wrapArgument(e.Args[1], "Finalizer", r.site(e, "finalizer"))
 	case full == "os/signal.NotifyContext":
 		from := strings.TrimSuffix(r.source(sel), sel.Sel.Name)
 		r.replace(sel.Pos(), sel.End(), "gorec.NotifyContext("+from+"Notify, "+from+"Stop, "+r.site(e, "done")+")")

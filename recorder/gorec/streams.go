@@ -20,6 +20,7 @@ var outlets = map[string]bool{
 var passing = map[string][]string{
 	"*bufio.Reader": {"rd"}, "*bufio.Writer": {"wr"}, "*bufio.Scanner": {"r"}, "*csv.Reader": {"r"}, "*csv.Writer": {"w"},
 	"*json.Decoder": {"r", "dec.s.rd"}, "*json.Encoder": {"w"}, "*tabwriter.Writer": {"output"},
+	"*textproto.Reader": {"R"}, "textproto.Reader": {"R"}, "*textproto.Writer": {"W"}, "textproto.Writer": {"W"},
 	"*http.connReader": {"conn.rwc"}, "*gob.Decoder": {"r"}, "*gob.Encoder": {"w"}, "*xml.Decoder": {"r"}, "*xml.Encoder": {"p.Writer", "p.w"},
 }
 

@@ -147,7 +147,7 @@ func readMethod(f *types.Func) string {
 // methodCall changes the X of a call of X.M, where M may read or write what X holds.
 func (r *rewriter) methodCall(e *ast.CallExpr, sel *ast.SelectorExpr, f *types.Func) {
 	typ := receiverType(f)
-	path, _ := r.promotion(sel)
+	path, last := r.promotion(sel)
 	name := r.name(sel.X) + strings.ReplaceAll(path, ".", "_")
 	reads, isContent := contentTypes[typ]
 	writesMap, isMap := mapTypes[typ]
@@ -161,6 +161,10 @@ func (r *rewriter) methodCall(e *ast.CallExpr, sel *ast.SelectorExpr, f *types.F
 		r.contentCall(e, sel, f, hasWord(reads, f.Name()))
 	case goesOut(typ, f.Name()) && (path == "" || isPointer(r.typeOf(sel.X)) || isInterface(r.typeOf(sel.X))):
 		r.wrapReceiver(sel, "Out", r.site(e, name))
+	case goesOut(typ, f.Name()) && (isPointer(last) || isInterface(last)) && r.canName(sel): // embedded in a struct, not a pointer to one
+		r.use(sel, "Out", r.site(e, name))
+	case (typ == "net/textproto.Reader" || typ == "net/textproto.Writer") && (path == "" || isPointer(r.typeOf(sel.X))):
+		r.wrapReceiver(sel, streamCall(typ == "net/textproto.Reader"), r.site(e, name))
 	case listenerTypes[typ] && strings.HasPrefix(f.Name(), "Accept") && path == "":
 		r.wrapReceiver(sel, "Accepts", r.site(e, name))
 	case f.FullName() == "(net/http.Handler).ServeHTTP" && path == "":

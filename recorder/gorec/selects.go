@@ -147,7 +147,7 @@ func Select(s *Site, hasDefault bool, cases ...communication) int {
 func communicate(s *Site, hasDefault bool, cases []communication) int {
 	g := current(s)
 	begin()
-	poll := false
+	poll, others := false, 0
 	var over <-chan struct{}
 	for i, c := range cases {
 		o := c.state()
@@ -155,8 +155,10 @@ func communicate(s *Site, hasDefault bool, cases []communication) int {
 		o.channel = channelAt(c.pointer(), g, s)
 		switch {
 		case o.channel == nil:
+			others++
 		case o.channel.foreign:
 			poll = true
+			others++
 		case o.channel.done != nil:
 			r, ok := c.(*Taking[struct{}])
 			if poll = poll || !ok || over != nil; ok {
@@ -168,6 +170,12 @@ func communicate(s *Site, hasDefault bool, cases []communication) int {
 		mu.Unlock()
 		waitForeign(g, s, cases[0])
 		return 0
+	}
+	if others == len(cases) && !hasDefault && poll {
+		mu.Unlock()
+		i := plainSelect(false, cases)
+		g.foundForeign(s, cases[i])
+		return i
 	}
 	i, panics := g.try(s, cases)
 	if i == none && hasDefault {
@@ -191,6 +199,11 @@ func communicate(s *Site, hasDefault bool, cases []communication) int {
 // waitForeign does a lone operation on a foreign channel, which is waited for by Go's means.
 func waitForeign(g *G, s *Site, c communication) {
 	c.wait()
+	g.foundForeign(s, c)
+}
+
+// foundForeign is g behind what comes before an operation on a foreign channel.
+func (g *G) foundForeign(s *Site, c communication) {
 	begin()
 	g.acquire(c.state().channel.order, s)
 	mu.Unlock()
@@ -218,7 +231,8 @@ func (g *G) noteDefault(s *Site, cases []communication) {
 	}
 }
 
-// plainSelect is a select of a run without a log.
+// plainSelect is a select by Go's means: of a run without a log, or where all channels are foreign, so
+// that code without the recorder finds who waits.
 func plainSelect(hasDefault bool, cases []communication) int {
 	var all []reflect.SelectCase
 	for _, c := range cases {

@@ -18,7 +18,8 @@ func main() {
 		l = mu.RLocker()
 		done <- true
 	}()
-	l.Lock()
-	l.Unlock()
+	locker := l // once: what locks has to unlock
+	locker.Lock()
+	locker.Unlock()
 	fmt.Println(<-done)
 }

@@ -140,8 +140,10 @@ func (d *declarer) record(i int) {
 
 // inherit declares what a record uses first that an earlier segment has declared.
 func (d *declarer) inherit(i int, r *wire.Record) {
-	for k := 1; r.Op == wire.Default && k <= int(r.Count); k++ {
-		d.inherit(i, &wire.Record{Object: d.at(i + k).Object})
+	if r.Op == wire.Default {
+		for _, c := range d.cases(i) {
+			d.inherit(i, &wire.Record{Object: c.Object})
+		}
 	}
 	if o := &d.objects[r.Object]; o.inherited && r.Op != wire.Case {
 		o.inherited = false

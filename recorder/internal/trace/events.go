@@ -206,8 +206,7 @@ func (p *printer) objectName(id uint32) string {
 // takeDefault writes the cases on channels that are kept.
 func (p *printer) takeDefault(i int, r *wire.Record) {
 	var cases []string
-	for k := 1; k <= int(r.Count); k++ {
-		c := p.at(i + k)
+	for _, c := range p.cases(i) {
 		if c.Count == 1 || !p.keep(c.Object) {
 			continue
 		}

@@ -59,6 +59,16 @@ func (s *stretch) at(i int) *wire.Record {
 	return &s.log[s.from+i-len(s.state)]
 }
 
+// cases are those of a default. A program that was killed may not have written all.
+func (s *stretch) cases(i int) []wire.Record {
+	first := s.position(i) + 1
+	last := first + int(s.at(i).Count)
+	if last > len(s.log) {
+		last = len(s.log)
+	}
+	return s.log[first:last]
+}
+
 // position is where in the log a record of the stretch stands that comes after its state.
 func (s *stretch) position(i int) int { return s.from + i - len(s.state) }
 

@@ -122,9 +122,9 @@ func (s *survey) look(i int) {
 		s.use(r.Object, r.Goroutine)
 		s.use(r.Object, r.Other)
 	case wire.Default:
-		for k := 1; k <= int(r.Count); k++ {
-			if id := s.at(i + k).Object; id != 0 {
-				s.use(id, r.Goroutine)
+		for _, c := range s.cases(i) {
+			if c.Object != 0 {
+				s.use(c.Object, r.Goroutine)
 			}
 		}
 	case wire.TryFail:

@@ -363,3 +363,21 @@ func TestCutBeforeTheEndOfAFullLog(t *testing.T) {
 		}
 	}
 }
+
+// TestADefaultWithoutAllCases: the program was killed while it wrote them.
+func TestADefaultWithoutAllCases(t *testing.T) {
+	records := []wire.Record{
+		{Op: wire.DeclareChan, Object: 1, Site: 1},
+		{Op: wire.Go, Other: 1, Site: 1},
+		{Op: wire.Close, Object: 1, Goroutine: 1, Site: 2},
+		{Op: wire.Default, Count: 3, Site: 3},
+		{Op: wire.Case, Object: 1},
+		{Op: wire.Case, Object: 1, Kind: 1},
+	}
+	for cases, want := range []string{"", "default main recv:x a.go:3\n", "default main recv:x,send:x a.go:3\n"} {
+		text, _ := writtenAs(t, 2, records[:len(records)-2+cases])
+		if _, last, _ := strings.Cut(text, "close g1 x a.go:2\n"); last != want {
+			t.Errorf("%d cases:\n%s", cases, text)
+		}
+	}
+}

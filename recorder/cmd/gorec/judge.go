@@ -8,6 +8,7 @@ import (
 	"os"
 	"os/exec"
 	"path/filepath"
+	"regexp"
 	"strings"
 
 	"gorace.local/recorder/internal/process"
@@ -80,6 +81,9 @@ func (j *judge) ask(k *process.Keeper, command []string, path string, to, notes 
 	return err
 }
 
+// cleanLine is in the report on a trace without races.
+var cleanLine = regexp.MustCompile(`(?m)^clean: `)
+
 func (j *judge) askOnce(k *process.Keeper, command []string, path string, to, notes io.Writer, o *outcome) error {
 	in, err := os.Open(path)
 	if err != nil {
@@ -95,6 +99,8 @@ func (j *judge) askOnce(k *process.Keeper, command []string, path string, to, no
 	io.WriteString(to, o.report)
 	var ended *exec.ExitError
 	switch {
+	case err == nil && !cleanLine.MatchString(o.report):
+		return fmt.Errorf("the trace wasn't judged: %s ended with 0 and didn't say that it is clean", j.shown)
 	case err == nil:
 	case errors.As(err, &ended) && ended.ExitCode() > 0:
 		o.status = ended.ExitCode()

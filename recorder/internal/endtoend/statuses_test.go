@@ -12,6 +12,7 @@ func TestStatuses(t *testing.T) {
 	clean := stub(t)
 	racing := judgeSaying(t, filepath.Join(t.TempDir(), "racing"), "races: 1", 66)
 	illegal := judgeSaying(t, filepath.Join(t.TempDir(), "illegal"), "illegal: event 5: stale read", 1)
+	silent := judgeSaying(t, filepath.Join(t.TempDir(), "silent"), "races, or none", 0)
 	for _, c := range []struct {
 		judge  string
 		args   []string
@@ -30,6 +31,8 @@ func TestStatuses(t *testing.T) {
 		{clean, []string{"test", "./fails", "-race"}, 3, "gorec: test: -race is a flag of go test that gorec doesn't have"},
 		{clean, []string{"build", "-tests", "-o", "/dev/null", "./runs"}, 3, "gorec: there are no test files in ./runs\n"},
 		{clean, []string{"run", "./library"}, 3, "gorec: there is no package main in ./library\n"},
+		{silent, []string{"run", "./runs"}, 3, " ended with 0 and didn't say that it is clean\n"},
+		{silent, []string{"test", "./fails", "-run", "Passes"}, 3, " ended with 0 and didn't say that it is clean\n"},
 		{clean, []string{"test", "./fails", "-none"}, 21, "flag provided but not defined: -none"},
 	} {
 		args := c.args

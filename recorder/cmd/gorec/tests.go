@@ -145,8 +145,11 @@ func (c *testRun) several(programs []*instrument.Program) (int, error) {
 	return status, nil
 }
 
-// quiet tests a package of several. Where nothing is wrong and -v and -bench aren't there, its
-// line is all that is told; noted says that there are notes.
+// tellsAll reports whether the output of each package is wanted, as go test has it.
+func (c *testRun) tellsAll() bool { return c.names["v"] || c.names["bench"] || c.names["list"] }
+
+// quiet tests a package of several. Where nothing is wrong and its output isn't wanted, its line is
+// all that is told; noted says that there are notes.
 func (c *testRun) quiet(p *instrument.Program, name, folder string, to io.Writer) (status int, noted bool, err error) {
 	if c.json {
 		e := newEvents(to, p.ImportPath)
@@ -156,7 +159,7 @@ func (c *testRun) quiet(p *instrument.Program, name, folder string, to io.Writer
 	}
 	var all bytes.Buffer
 	status, err = c.told(p, name, folder, &console{out: &all, notes: &all})
-	if status == 0 && err == nil && !c.names["v"] && !c.names["bench"] {
+	if status == 0 && err == nil && !c.tellsAll() {
 		text := bytes.TrimSuffix(all.Bytes(), []byte("\n"))
 		noted = isNote.Match(all.Next(bytes.LastIndexByte(text, '\n') + 1))
 	}

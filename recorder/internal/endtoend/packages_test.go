@@ -109,6 +109,15 @@ func TestFlagsOfTests(t *testing.T) {
 	}
 }
 
+// TestListsOfTests: -list lists the tests of several packages too.
+func TestListsOfTests(t *testing.T) {
+	t.Parallel()
+	out, errs, status := runService(t, []string{"XDG_CACHE_HOME=" + t.TempDir()}, "test", "-gorace", stub(t), "-list", ".", "./bank", "./store")
+	if status != 0 || !strings.Contains(out, "TestPay\n") || !strings.Contains(out, "TestSell\n") {
+		t.Errorf("status %d\n%s%s", status, out, errs)
+	}
+}
+
 // TestExplained: behind the report stands what each of the two last synchronized by, and how
 // the race is drawn; the trace is where that says.
 func TestExplained(t *testing.T) {

@@ -90,8 +90,15 @@ func (b *building) single(copied *instrument.Copy, args []string, tests bool) (*
 		return nil, fmt.Errorf("%s: %s", p.ImportPath, p.Broken)
 	case tests && !p.HasTests:
 		return nil, errors.New("there are no test files in " + named)
+	case p.Standard:
+		return nil, errStandard(p)
 	}
 	return p, b.refuse(p)
+}
+
+// errStandard is why a program of the standard library isn't run.
+func errStandard(p *instrument.Program) error {
+	return fmt.Errorf("nothing of %s can be recorded: it is in the standard library", p.ImportPath)
 }
 
 // refuse tells what can't be recorded of a program, which then isn't run.

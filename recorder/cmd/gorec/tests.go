@@ -190,16 +190,7 @@ func (c *testRun) test(p *instrument.Program, name, folder string, out *console)
 		c.notRun(out.out, p, "?", "no test files")
 		return 0, nil
 	}
-	if p.Unseen {
-		fmt.Fprintf(out.notes, "gorec: nothing of %s can be recorded: each package has cgo\n", p.ImportPath)
-		c.notRun(out.out, p, "FAIL", "not recorded")
-		return unusable, nil
-	}
-	for _, line := range p.Refused {
-		fmt.Fprintln(out.notes, "gorec: "+line)
-	}
-	if n := len(p.Refused); n > 0 && !c.force {
-		fmt.Fprintf(out.notes, "gorec: nothing was run: %s can't be recorded (-force goes on without)\n", places(n))
+	if c.isUnrecorded(p, out.notes) {
 		c.notRun(out.out, p, "FAIL", "not recorded")
 		return unusable, nil
 	}
@@ -222,6 +213,26 @@ func (c *testRun) test(p *instrument.Program, name, folder string, out *console)
 	}
 	c.result(out.out, p, o, watch.seen)
 	return o.status, nil
+}
+
+// isUnrecorded reports whether a package's tests aren't run since they can't be recorded, and tells why.
+func (c *testRun) isUnrecorded(p *instrument.Program, notes io.Writer) bool {
+	switch {
+	case p.Standard:
+		fmt.Fprintf(notes, "gorec: %v\n", errStandard(p))
+		return true
+	case p.Unseen:
+		fmt.Fprintf(notes, "gorec: nothing of %s can be recorded: each package has cgo\n", p.ImportPath)
+		return true
+	}
+	for _, line := range p.Refused {
+		fmt.Fprintln(notes, "gorec: "+line)
+	}
+	if n := len(p.Refused); n > 0 && !c.force {
+		fmt.Fprintf(notes, "gorec: nothing was run: %s can't be recorded (-force goes on without)\n", places(n))
+		return true
+	}
+	return false
 }
 
 // result writes the line of a package that was tested.

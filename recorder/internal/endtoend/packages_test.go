@@ -118,6 +118,20 @@ func TestListsOfTests(t *testing.T) {
 	}
 }
 
+// TestStandardPackages: of the standard library nothing is recorded, and so nothing is run.
+func TestStandardPackages(t *testing.T) {
+	t.Parallel()
+	cache := []string{"XDG_CACHE_HOME=" + t.TempDir()}
+	const why = "nothing of errors can be recorded: it is in the standard library\n"
+	out, errs, status := runService(t, cache, "test", "-gorace", stub(t), "errors", "./bank")
+	if status != 3 || !strings.Contains(out, why+"FAIL\terrors [not recorded]\n") || !strings.Contains(out, "ok  \texample.com/service/bank\t") {
+		t.Errorf("status %d\n%s%s", status, out, errs)
+	}
+	if out, errs, status = runService(t, cache, "test", "-gorace", stub(t), "errors"); status != 3 || errs != "gorec: "+why {
+		t.Errorf("status %d\n%s%s", status, out, errs)
+	}
+}
+
 // TestExplained: behind the report stands what each of the two last synchronized by, and how
 // the race is drawn; the trace is where that says.
 func TestExplained(t *testing.T) {

@@ -48,6 +48,7 @@ func (e *PackageError) Error() string {
 type Program struct {
 	ImportPath, Dir string
 	HasTests        bool
+	Standard        bool            // of the standard library, of which nothing is recorded
 	Broken          string          // why it can't be built, in the words of go test
 	Parts           map[string]bool // the import paths of the packages that it has
 }
@@ -91,7 +92,7 @@ func mains(all []*Listed) []*Program {
 	var programs []*Program
 	for _, l := range all {
 		if !l.DepOnly && l.Name == "main" {
-			programs = append(programs, &Program{ImportPath: l.ImportPath, Dir: l.Dir, Parts: parts(l)})
+			programs = append(programs, &Program{ImportPath: l.ImportPath, Dir: l.Dir, Standard: l.Standard, Parts: parts(l)})
 		}
 	}
 	return programs
@@ -118,7 +119,7 @@ func tests(all []*Listed) []*Program {
 		if l.DepOnly || l.ForTest != "" || isMade(l, made) {
 			continue
 		}
-		p := &Program{ImportPath: l.ImportPath, Dir: l.Dir, HasTests: len(l.TestGoFiles)+len(l.XTestGoFiles) > 0}
+		p := &Program{ImportPath: l.ImportPath, Dir: l.Dir, HasTests: len(l.TestGoFiles)+len(l.XTestGoFiles) > 0, Standard: l.Standard}
 		programs = append(programs, p)
 		switch of := made[l.ImportPath+".test"]; {
 		case l.Error != nil:
@@ -166,7 +167,8 @@ func copied(all []*Listed) []*Listed {
 	best := map[string]*Listed{}
 	var order []string
 	for _, l := range all {
-		if l.Standard || l.Export == "" || isMade(l, made) {
+		of := made[l.ForTest] // go list doesn't call the tests beside a package of the library standard
+		if l.Standard || of != nil && of.Standard || l.Export == "" || isMade(l, made) {
 			continue
 		}
 		key := path(l.ImportPath)

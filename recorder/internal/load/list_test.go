@@ -22,6 +22,8 @@ func listed() []*Listed {
 		{ImportPath: "x/c.test", Name: "main"},
 		{ImportPath: "x/d", Name: "d", Export: "9"},
 		{ImportPath: "y", Name: "y", Export: "10", DepOnly: true},
+		{ImportPath: "s", Name: "s", Export: "11", Standard: true, DepOnly: true},
+		{ImportPath: "s_test [s.test]", Name: "s_test", Export: "12", ForTest: "s", DepOnly: true},
 	}
 }
 

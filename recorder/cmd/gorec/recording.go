@@ -284,6 +284,23 @@ type console struct {
 	out, notes io.Writer
 }
 
+// A lineEnder ends the last line of a program's output, so that a report begins a line.
+type lineEnder struct {
+	to     io.Writer
+	inLine bool
+}
+
+func (l *lineEnder) Write(b []byte) (int, error) {
+	l.inLine = len(b) > 0 && b[len(b)-1] != '\n'
+	return l.to.Write(b)
+}
+
+func (l *lineEnder) end() {
+	if l.inLine {
+		io.WriteString(l.to, "\n")
+	}
+}
+
 // attach gives a program its output; finish waits for it, unless what the program started keeps
 // it.
 func (c *console) attach(cmd *exec.Cmd) (finish func(), err error) {
@@ -299,7 +316,9 @@ func (c *console) attach(cmd *exec.Cmd) (finish func(), err error) {
 	done := make(chan struct{})
 	go func() {
 		defer close(done)
-		io.Copy(c.out, r)
+		lines := &lineEnder{to: c.out}
+		io.Copy(lines, r)
+		lines.end()
 	}()
 	return func() {
 		w.Close()

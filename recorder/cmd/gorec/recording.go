@@ -319,6 +319,7 @@ func (c *console) attach(cmd *exec.Cmd) (finish func(), err error) {
 		lines := &lineEnder{to: c.out}
 		io.Copy(lines, r)
 		lines.end()
+		io.Copy(io.Discard, r) // where nothing can be written any more, the program needn't wait
 	}()
 	return func() {
 		w.Close()

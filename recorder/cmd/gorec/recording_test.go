@@ -1,6 +1,7 @@
 package main
 
 import (
+	"errors"
 	"os/exec"
 	"strings"
 	"testing"
@@ -23,4 +24,21 @@ func TestLastLine(t *testing.T) {
 			t.Errorf("%s: %q, %v", script, got.String(), err)
 		}
 	}
+}
+
+type broken struct{}
+
+func (broken) Write([]byte) (int, error) { return 0, errors.New("no space left") }
+
+// TestNoOutput: a program ends though its output can't be written.
+func TestNoOutput(t *testing.T) {
+	cmd := exec.Command("sh", "-c", "head -c 1000000 /dev/zero")
+	finish, err := (&console{out: broken{}}).attach(cmd)
+	if err != nil {
+		t.Fatal(err)
+	}
+	if err := cmd.Run(); err != nil {
+		t.Error(err)
+	}
+	finish()
 }

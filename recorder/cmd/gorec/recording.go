@@ -182,7 +182,10 @@ func (s *session) once(t *target, c *console, seed string) (*outcome, error) {
 	defer out.drop()
 	o := &outcome{seed: seed}
 	if err := s.recordAndJudge(t, c.locked(), log, out, o); err != nil {
-		return nil, err
+		if o.status != racing {
+			return nil, err
+		}
+		fmt.Fprintf(c.notes, "gorec: %v\n", err) // behind a segment with races
 	}
 	switch {
 	case o.status != 0:

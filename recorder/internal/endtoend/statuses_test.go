@@ -1,6 +1,7 @@
 package endtoend
 
 import (
+	"os"
 	"path/filepath"
 	"strings"
 	"testing"
@@ -43,5 +44,25 @@ func TestStatuses(t *testing.T) {
 		if status != c.status || !strings.Contains(out+errs, c.told) {
 			t.Errorf("%v: status %d, not %d\n%s%s", c.args, status, c.status, out, errs)
 		}
+	}
+}
+
+// TestRacesBeforeAFailure: what is found in a run's first part counts, though a later one can't be
+// judged.
+func TestRacesBeforeAFailure(t *testing.T) {
+	judge := filepath.Join(t.TempDir(), "once")
+	script := `#!/bin/sh
+cat >/dev/null
+[ -e ` + judge + `.asked ] && kill -KILL $$
+touch ` + judge + `.asked
+echo 'race on total: write by g1 at a.go:1 (event 1), write by g2 at a.go:2 (event 2)'
+exit 66
+`
+	if err := os.WriteFile(judge, []byte(script), 0o755); err != nil {
+		t.Fatal(err)
+	}
+	out, errs, status := runTool(t, "run", "-records", "1024", "-gorace", judge, "./rounds")
+	if status != 66 || !strings.Contains(out, "gorec: to see why: ") || !strings.Contains(errs, "gorec: the trace wasn't judged: signal: killed\n") {
+		t.Errorf("status %d\n%s%s", status, out, errs)
 	}
 }

@@ -56,7 +56,11 @@ func nextPart() {
 	awaitReaders()
 	ended, old, count := header, mapped, header.Records+ranOn
 	if err := openLog(logPath + "." + strconv.Itoa(int(part+1))); err != nil {
-		seal()
+		why := wire.FullLog
+		if err == errDisk {
+			why = wire.FullDisk
+		}
+		seal(why)
 		unlockAll()
 		return
 	}

@@ -67,7 +67,7 @@ func (w *window) countRuns() {
 	case isFull(count):
 		atomic.StoreUint32(&full, 1)
 	case partRecords == 0 && int(count) > len(records)-reserve():
-		seal()
+		seal(wire.FullLog)
 	}
 }
 

@@ -51,8 +51,18 @@ func openStacks(path string) error {
 	if err != nil {
 		return err
 	}
+	if stackWords = 0; !stackHasRoom() {
+		return errDisk
+	}
 	stackFile[0], stackWords = aFunction(), 1
 	return nil
+}
+
+// stackHasRoom reports whether there is room on the disk for one more stack.
+func stackHasRoom() bool {
+	const word = int(unsafe.Sizeof(uintptr(0)))
+	file := unsafe.Slice((*byte)(unsafe.Pointer(&stackFile[0])), len(stackFile)*word)
+	return hasDisk(file, stackWords*word, (stackWords+1+deepest)*word)
 }
 
 // aFunction is where one of this program is: not in each run at the same place.
@@ -95,7 +105,7 @@ func numberOf(key stackKey) uint32 {
 	stacksLock.Lock()
 	defer stacksLock.Unlock()
 	id, known := stacks[key]
-	if !known && len(stacks) < mostStacks {
+	if !known && len(stacks) < mostStacks && stackHasRoom() {
 		id = uint32(len(stacks) + 1)
 		stacks[key] = id
 		writeStack()

@@ -1,6 +1,7 @@
 package gorec
 
 import (
+	"errors"
 	"os"
 	"sync/atomic"
 	"syscall"
@@ -62,6 +63,10 @@ func openLog(path string) error {
 	if err != nil {
 		return err
 	}
+	if !hasDisk(b, 0, wire.Size) || !hasDisk(b, size-wire.Size, size) { // the last record is that of seal
+		syscall.Munmap(b)
+		return errDisk
+	}
 	mapped = b
 	header = (*wire.Header)(unsafe.Pointer(&b[0]))
 	records = unsafe.Slice((*wire.Record)(unsafe.Pointer(&b[wire.Size])), count)
@@ -107,7 +112,11 @@ func (w *window) refill() bool {
 	}
 	end := atomic.AddUint32(&header.Records, w.size)
 	if int(end) > limit {
-		seal()
+		seal(wire.FullLog)
+		return false
+	}
+	if !hasDisk(mapped, (1+int(end-w.size))*wire.Size, (1+int(end))*wire.Size) {
+		seal(wire.FullDisk)
 		return false
 	}
 	if isFull(end + atomic.LoadUint32(&ranOn)) {
@@ -138,10 +147,24 @@ func isFull(count uint32) bool {
 	return partRecords > 0 && int(count) > len(records)-len(records)/8
 }
 
+// errDisk is why there is no other log, or none at all.
+var errDisk = errors.New("no space left on the disk")
+
+// populate is an advice of Linux, MADV_POPULATE_WRITE. Where it isn't known, as before Linux 5.14, a
+// full disk ends the program.
+const populate = 23
+
+// hasDisk has the system find room on the disk for a stretch of a mapped file, and reports whether
+// there is. Without room a write would be a fault. Records that are in no file, as in tests, have room.
+func hasDisk(file []byte, from, to int) bool {
+	from -= from % syscall.Getpagesize()
+	return file == nil || syscall.Madvise(file[from:to], populate) != syscall.EFAULT
+}
+
 // seal ends the recording; its mark has the last record.
-func seal() {
+func seal(why wire.FullKind) {
 	sealed, live = true, false
-	records[len(records)-1] = wire.Record{Op: wire.Full}
+	records[len(records)-1] = wire.Record{Op: wire.Full, Kind: uint8(why)}
 	atomic.StoreUint32(&header.Records, uint32(len(records)))
 }
 
@@ -152,6 +175,6 @@ func makeRoom() {
 	case partRecords > 0 && atomic.LoadUint32(&full) != 0:
 		nextPart()
 	case partRecords == 0 && int(atomic.LoadUint32(&header.Records)+atomic.LoadUint32(&ranOn)) > len(records)-reserve():
-		seal()
+		seal(wire.FullLog)
 	}
 }

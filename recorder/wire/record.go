@@ -91,7 +91,7 @@ const (
 	FaultReadUnlock           // Object
 	Unseen                    // Object, Value: a read found what no recorded write wrote
 	Lost                      // Kind: a Loss
-	Full                      // no room for more records
+	Full                      // no room for more records; Kind: a FullKind
 )
 
 // GoKind is how a goroutine was started.
@@ -113,6 +113,15 @@ const (
 	VarMap             // what a map holds
 	VarGroup           // a WaitGroup's first Add against its first Wait
 	VarContent         // what an object of the standard library holds
+)
+
+// FullKind is where there is no room.
+type FullKind uint8
+
+// The kinds of a Full.
+const (
+	FullLog FullKind = iota
+	FullDisk
 )
 
 // Loss is what a Lost has met.

@@ -119,7 +119,11 @@ func (j *judging) judgePart(log *trace.Log) error {
 	// What a part takes is needed once, and the program that runs beside needs memory too.
 	defer debug.SetGCPercent(debug.SetGCPercent(20))
 	defer debug.FreeOSMemory()
-	s := trace.NewSegments(log.Records(), options)
+	records, err := log.Records()
+	if err != nil {
+		return err
+	}
+	s := trace.NewSegments(records, options)
 	for {
 		command, why := j.judgedBy(s.HasAllVariables(), forgotten)
 		if why != "" {

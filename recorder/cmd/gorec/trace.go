@@ -49,7 +49,11 @@ func printTrace(path, sitesPath string, options trace.Options) error {
 	if err := checkVersion(log, options); err != nil {
 		return err
 	}
-	summary, err := trace.Write(log.Records(), table, options, os.Stdout)
+	records, err := log.Records()
+	if err != nil {
+		return err
+	}
+	summary, err := trace.Write(records, table, options, os.Stdout)
 	if err != nil {
 		return err
 	}

@@ -155,7 +155,11 @@ func recordParts(t *testing.T, program, log string, part, events int, env ...str
 func writeSegments(t *testing.T, l *trace.Log, table sites.Table, events int, name string, traces map[string]string) {
 	t.Helper()
 	options := trace.Options{Version: l.Version(), Events: events}
-	s := trace.NewSegments(l.Records(), options)
+	records, err := l.Records()
+	if err != nil {
+		t.Fatal(err)
+	}
+	s := trace.NewSegments(records, options)
 	for k := 0; ; k++ {
 		path := fmt.Sprintf("%s.%d.gotrace", name, k)
 		f, err := os.Create(path)

@@ -8,7 +8,9 @@ package trace
 
 import (
 	"fmt"
+	"io"
 	"os"
+	"runtime/debug"
 	"sync/atomic"
 	"syscall"
 	"unsafe"
@@ -18,10 +20,12 @@ import (
 
 // Log is the records of a run. It may still be written.
 type Log struct {
+	path    string
 	mapped  []byte
 	header  *wire.Header
 	records []wire.Record
 	ordered []byte // the memory of these, in order
+	copied  []byte // what the file has, where its memory can't be read
 }
 
 // Open maps a log into memory.
@@ -52,8 +56,7 @@ func Open(path string) (*Log, error) {
 		syscall.Munmap(b)
 		return nil, fmt.Errorf("%s is no log of this gorec", path)
 	}
-	records := unsafe.Slice((*wire.Record)(unsafe.Pointer(&b[0])), len(b)/wire.Size)[1:]
-	return &Log{mapped: b, header: header, records: records}, nil
+	return &Log{path: path, mapped: b, header: header, records: recordsOf(b)}, nil
 }
 
 // Len is up to where the log has records.
@@ -66,10 +69,56 @@ func (l *Log) Len() int {
 
 // Records are those of the log, in the order in which the operations were done, until it is
 // closed.
-func (l *Log) Records() []wire.Record {
-	records := inOrder(reading{l.records[:l.Len()], l.giveBack}, l.room)
+func (l *Log) Records() ([]wire.Record, error) {
+	records, err := l.inOrder(reading{l.records[:l.Len()], l.giveBack})
+	if err != nil {
+		if err = l.copy(); err != nil {
+			return nil, err
+		}
+		records = inOrder(reading{l.records[:l.Len()], nil}, l.room)
+	}
 	renumber(records)
-	return records
+	return records, nil
+}
+
+// inOrder are the records in order, or an error where memory of the file can't be read: where nothing
+// was written, the system finds room on some disks once that is read, and the disk may be full.
+func (l *Log) inOrder(r reading) (records []wire.Record, err error) {
+	defer debug.SetPanicOnFault(debug.SetPanicOnFault(true))
+	defer func() {
+		switch e := recover().(type) {
+		case nil:
+		case interface{ Addr() uintptr }:
+			err = fmt.Errorf("the log can't be read at %#x", e.Addr())
+		default:
+			panic(e)
+		}
+	}()
+	return inOrder(r, l.room), nil
+}
+
+// copy reads the log to memory that is of no file.
+func (l *Log) copy() error {
+	f, err := os.Open(l.path)
+	if err != nil {
+		return err
+	}
+	defer f.Close()
+	b, err := syscall.Mmap(-1, 0, len(l.mapped), syscall.PROT_READ|syscall.PROT_WRITE, syscall.MAP_ANON|syscall.MAP_PRIVATE)
+	if err != nil {
+		return err
+	}
+	l.copied = b
+	if _, err := io.ReadFull(f, b[:wire.Size*(1+l.Len())]); err != nil {
+		return fmt.Errorf("the log: %w", err)
+	}
+	l.records = recordsOf(b)
+	return nil
+}
+
+// recordsOf are those of a log.
+func recordsOf(b []byte) []wire.Record {
+	return unsafe.Slice((*wire.Record)(unsafe.Pointer(&b[0])), len(b)/wire.Size)[1:]
 }
 
 // room is memory that Go's collector needn't know.
@@ -77,6 +126,9 @@ func (l *Log) room(n int) []wire.Record {
 	b, err := syscall.Mmap(-1, 0, (n+1)*wire.Size, syscall.PROT_READ|syscall.PROT_WRITE, syscall.MAP_ANON|syscall.MAP_PRIVATE)
 	if err != nil {
 		return make([]wire.Record, n)
+	}
+	if l.ordered != nil { // of a reading that failed
+		syscall.Munmap(l.ordered)
 	}
 	l.ordered = b
 	return unsafe.Slice((*wire.Record)(unsafe.Pointer(&b[0])), n)
@@ -111,8 +163,10 @@ func (l *Log) Version() int { return int(l.header.Version) }
 
 // Close gives back the memory of the log, and of its records.
 func (l *Log) Close() error {
-	if l.ordered != nil {
-		syscall.Munmap(l.ordered)
+	for _, b := range [][]byte{l.ordered, l.copied} {
+		if b != nil {
+			syscall.Munmap(b)
+		}
 	}
 	return syscall.Munmap(l.mapped)
 }

@@ -142,7 +142,11 @@ func (s *Summary) look(r *wire.Record, d *declarer) {
 		}
 		s.losses[kind][site.Place]++
 	case wire.Full:
-		if d.cut == "" {
+		switch {
+		case d.cut != "":
+		case wire.FullKind(r.Kind) == wire.FullDisk:
+			d.cut = "the disk has no room for more records"
+		default:
 			d.cut = "the log has no room for more records"
 		}
 	}

@@ -17,7 +17,7 @@ const (
 )
 
 // mostOfRun is how many accesses follow the first one of a run.
-var mostOfRun uint32 = 1 << 10
+var mostOfRun uint32 = wire.MostOfRun
 
 // run is what a goroutine did last at a place.
 type run struct {

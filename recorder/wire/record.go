@@ -46,6 +46,9 @@ type Record struct {
 	Count     uint16
 }
 
+// MostOfRun is the most that the Other of an access is.
+const MostOfRun = 1 << 10
+
 // Op says what a record is.
 type Op uint8
 

@@ -49,6 +49,9 @@ func printTrace(path, sitesPath string, options trace.Options) error {
 	if err := checkVersion(log, options); err != nil {
 		return err
 	}
+	if err := log.Check(table); err != nil {
+		return err
+	}
 	records, err := log.Records()
 	if err != nil {
 		return err

@@ -15,20 +15,26 @@ func renumber(records []wire.Record) {
 	}
 }
 
-// isSparse reports whether a log has less than half of the objects up to the highest number.
+// isSparse reports whether a log has less than half of the objects or of the goroutines up to the
+// highest number.
 func isSparse(records []wire.Record) bool {
-	most, objects := uint32(0), 0
+	most, objects, mostGoroutine, goroutines := uint32(0), 0, uint32(0), 0
 	for i := range records {
 		r := &records[i]
 		if r.Object > most {
 			most = r.Object
 		}
 		switch r.Op {
+		case wire.Go:
+			goroutines++
+			if r.Other > mostGoroutine {
+				mostGoroutine = r.Other
+			}
 		case wire.DeclareVar, wire.DeclareChan, wire.DeclareLock, wire.DeclareOnce, wire.Release:
 			objects++
 		}
 	}
-	return int(most) > 2*objects+1<<10
+	return int(most) > 2*objects+1<<10 || int(mostGoroutine) > 2*goroutines+1<<10
 }
 
 const pageBits = 10

@@ -121,19 +121,22 @@ func tests(all []*Listed) []*Program {
 		}
 		p := &Program{ImportPath: l.ImportPath, Dir: l.Dir, HasTests: len(l.TestGoFiles)+len(l.XTestGoFiles) > 0, Standard: l.Standard}
 		programs = append(programs, p)
-		switch of := made[l.ImportPath+".test"]; {
+		of := l // what is built
+		if p.HasTests {
+			of = made[l.ImportPath+".test"]
+		}
+		switch {
 		case l.Error != nil:
 			p.Broken = failed(l.Error.Err)
 			fmt.Fprintln(os.Stderr, l.Error)
-		case !p.HasTests:
 		case of == nil || len(of.DepsErrors) > 0 || of.Error != nil:
 			p.Broken = "setup failed"
 			if of != nil && len(of.DepsErrors) > 0 {
 				fmt.Fprintln(os.Stderr, of.DepsErrors[0])
 			}
-		case of.Export == "":
+		case of.Export == "" && (p.HasTests || !p.Standard): // as unsafe
 			p.Broken = "build failed"
-		default:
+		case p.HasTests:
 			p.Parts = parts(of)
 		}
 	}

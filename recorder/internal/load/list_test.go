@@ -21,6 +21,8 @@ func listed() []*Listed {
 		{ImportPath: "x/c", Name: "c", TestGoFiles: []string{"c_test.go"}},
 		{ImportPath: "x/c.test", Name: "main"},
 		{ImportPath: "x/d", Name: "d", Export: "9"},
+		{ImportPath: "x/e", Name: "e"},
+		{ImportPath: "x/f", Name: "f", DepsErrors: []*PackageError{{Err: "no package x/none"}}},
 		{ImportPath: "y", Name: "y", Export: "10", DepOnly: true},
 		{ImportPath: "s", Name: "s", Export: "11", Standard: true, DepOnly: true},
 		{ImportPath: "s_test [s.test]", Name: "s_test", Export: "12", ForTest: "s", DepOnly: true},
@@ -45,6 +47,7 @@ func TestTests(t *testing.T) {
 	want := []Program{
 		{ImportPath: "x/a", HasTests: true}, {ImportPath: "x/b", HasTests: true},
 		{ImportPath: "x/c", HasTests: true, Broken: "build failed"}, {ImportPath: "x/d"},
+		{ImportPath: "x/e", Broken: "build failed"}, {ImportPath: "x/f", Broken: "setup failed"},
 	}
 	if len(programs) != len(want) {
 		t.Fatal(programs)

@@ -118,9 +118,12 @@ func prune(folder string) {
 	}
 }
 
+// inFileName has a/b and a_b differ.
+var inFileName = strings.NewReplacer("_", "__", "/", "_")
+
 // fileName is that of a program's files.
 func fileName(importPath string, tests bool) string {
-	name := strings.ReplaceAll(importPath, "/", "_")
+	name := inFileName.Replace(importPath)
 	if tests {
 		name += ".test"
 	}

@@ -37,3 +37,18 @@ func TestTraceInFile(t *testing.T) {
 		t.Errorf("kept in %q, want %q", got, want)
 	}
 }
+
+// TestFileName: programs of one session have files of their own.
+func TestFileName(t *testing.T) {
+	paths := map[string]string{}
+	for _, path := range []string{"m", "m/a_b", "m/a/b", "m_a/b", "m_a_b", "m/a__b"} {
+		name := fileName(path, true)
+		if before, there := paths[name]; there {
+			t.Errorf("%s and %s are both %s", before, path, name)
+		}
+		paths[name] = path
+	}
+	if name := fileName("example.com/shop", true); name != "example.com_shop.test" {
+		t.Error(name)
+	}
+}

@@ -96,7 +96,7 @@ func (c *testRun) one(p *instrument.Program) (int, error) {
 // several tests packages; the output of each is told at once, in their order.
 func (c *testRun) several(programs []*instrument.Program) (int, error) {
 	folder := cacheFolder()
-	if c.recording.out != "" {
+	if c.recording.out != "" && c.recording.out != os.DevNull {
 		folder = c.recording.out
 		if err := os.MkdirAll(folder, 0o755); err != nil {
 			return 0, err

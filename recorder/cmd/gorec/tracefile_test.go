@@ -38,6 +38,23 @@ func TestTraceInFile(t *testing.T) {
 	}
 }
 
+// TestNoTrace: with -o /dev/null the judge has a trace, which isn't kept.
+func TestNoTrace(t *testing.T) {
+	program := filepath.Join(t.TempDir(), "program")
+	s := &session{recording: &recording{out: os.DevNull}}
+	f, err := s.createTrace(&target{name: "example.com_shop", file: program})
+	if err != nil {
+		t.Fatal(err)
+	}
+	if f.path != program+".gotrace" || f.keep(racing, true) != "" {
+		t.Errorf("%+v", f)
+	}
+	f.drop()
+	if _, err := os.Stat(f.path); err == nil {
+		t.Error("the trace is left")
+	}
+}
+
 // TestFileName: programs of one session have files of their own.
 func TestFileName(t *testing.T) {
 	paths := map[string]string{}

@@ -53,7 +53,7 @@ func (b *building) instrument(k *process.Keeper, args []string, dir string, test
 	if err != nil {
 		return nil, err
 	}
-	if note := untried(set.Toolchain); note != "" {
+	if note := untried(set.System, set.Toolchain); note != "" {
 		fmt.Fprintln(os.Stderr, "gorec: "+note)
 	}
 	base, err := os.Getwd()

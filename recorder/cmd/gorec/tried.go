@@ -2,7 +2,6 @@ package main
 
 import (
 	"fmt"
-	"runtime"
 	"strings"
 )
 
@@ -12,9 +11,7 @@ var tried = []int{19, 23, 24, 27}
 const triedOn = "linux/amd64"
 
 // untried is what to tell of a version of Go, a system or a processor that wasn't tried.
-func untried(toolchain string) string { return untriedOn(runtime.GOOS+"/"+runtime.GOARCH, toolchain) }
-
-func untriedOn(system, toolchain string) string {
+func untried(system, toolchain string) string {
 	if system != triedOn {
 		return fmt.Sprintf("recording isn't tried on %s; tried are %s on %s", system, versions(tried), triedOn)
 	}

@@ -14,11 +14,11 @@ func TestUntried(t *testing.T) {
 		"go2.19":                   "recording isn't tried with go2.19" + known,
 		"devel go1.25-abc Mon Jan": "recording isn't tried with devel go1.25-abc Mon Jan" + known,
 	} {
-		if got := untriedOn("linux/amd64", toolchain); got != want {
+		if got := untried("linux/amd64", toolchain); got != want {
 			t.Errorf("%s: %s", toolchain, got)
 		}
 	}
-	if got := untriedOn("linux/arm64", "go1.19.8"); got != "recording isn't tried on linux/arm64"+known {
+	if got := untried("linux/arm64", "go1.19.8"); got != "recording isn't tried on linux/arm64"+known {
 		t.Error(got)
 	}
 }

@@ -45,6 +45,7 @@ type Set struct {
 	Packages  []*Package
 	Programs  []*Program
 	Toolchain string // the version of the command go, as go1.22.1
+	System    string // for which it builds, as linux/amd64
 }
 
 // A ToolchainError is a command go that is newer than the one which built gorec: what it
@@ -62,6 +63,16 @@ func minorOf(version string) int {
 	return minor
 }
 
+// commandGo is the version of the command go, and the system for which it builds.
+func commandGo() (version, system string, err error) {
+	told, err := exec.Command("go", "env", "GOVERSION", "GOOS", "GOARCH").Output()
+	if err != nil {
+		return "", "", fmt.Errorf("go env: %w", err)
+	}
+	lines := append(strings.Split(string(told), "\n"), "", "")
+	return strings.TrimSpace(lines[0]), lines[1] + "/" + lines[2], nil
+}
+
 // Packages lists and checks the packages of programs but for the standard library's; where
 // tests are wanted, those of the packages' tests.
 func Packages(q Query) (*Set, error) {
@@ -69,11 +80,10 @@ func Packages(q Query) (*Set, error) {
 	if err != nil {
 		return nil, err
 	}
-	version, err := exec.Command("go", "env", "GOVERSION").Output()
-	if err != nil {
-		return nil, fmt.Errorf("go env: %w", err)
+	s := &Set{Programs: mains(listed)}
+	if s.Toolchain, s.System, err = commandGo(); err != nil {
+		return nil, err
 	}
-	s := &Set{Programs: mains(listed), Toolchain: strings.TrimSpace(string(version))}
 	if minorOf(s.Toolchain) > minorOf(runtime.Version()) {
 		return nil, &ToolchainError{s.Toolchain}
 	}

@@ -37,3 +37,13 @@ func TestMinorOf(t *testing.T) {
 		}
 	}
 }
+
+// TestCommandGo: the system is the one that is built for, which needn't be this one.
+func TestCommandGo(t *testing.T) {
+	t.Setenv("GOOS", "linux")
+	t.Setenv("GOARCH", "386")
+	version, system, err := commandGo()
+	if err != nil || system != "linux/386" || minorOf(version) == 0 {
+		t.Errorf("%s %s %v", version, system, err)
+	}
+}

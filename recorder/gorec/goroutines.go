@@ -95,6 +95,37 @@ func current(s *Site) *G {
 	return g
 }
 
+// Here is the goroutine that runs, for ReadHere and ToHere in a loop that calls nothing; so the whole
+// loop is done by it. It is nil where it isn't known yet.
+func Here() *G {
+	if t := (*tag)(getLabel()); t != nil && t.of != nil && t.of.g == getg() {
+		return t.of
+	}
+	return nil
+}
+
+// still is current, of what Here answered.
+func (g *G) still(s *Site) *G {
+	if g == nil || seed != 0 || g.settled != atomic.LoadUint32(&news) {
+		return g.again(s)
+	}
+	return g
+}
+
+// again is still where there is something to do.
+func (g *G) again(s *Site) *G {
+	if g == nil {
+		return current(s)
+	}
+	if seed != 0 {
+		g.yield()
+	}
+	if g.settled != atomic.LoadUint32(&news) {
+		g.settle(s)
+	}
+	return g
+}
+
 // settle has g take in the news.
 func (g *G) settle(s *Site) {
 	n := atomic.LoadUint32(&news)

@@ -28,6 +28,27 @@ func TestDumpOfAStart(t *testing.T) {
 	}
 }
 
+// TestHere: a goroutine is known where it was started or has been met, and no other one that has its label.
+func TestHere(t *testing.T) {
+	record(t)
+	known := make(chan bool)
+	Go(&Site{}, func() {
+		known <- Here() == current(&Site{})
+		go func() {
+			var x int
+			s, before := &Site{}, Here()
+			ReadHere(before, &x, s)
+			known <- before == nil && Here() == current(s)
+		}()
+	})
+	if !<-known {
+		t.Error("one that was started isn't known")
+	}
+	if !<-known {
+		t.Error("one that isn't the recorder's is known before its first access, or not behind it")
+	}
+}
+
 // A stack that has grown isn't copied when calls need 1.5 KB.
 func TestGrownStack(t *testing.T) {
 	defer debug.SetGCPercent(debug.SetGCPercent(-1)) // which lets stacks shrink

@@ -108,7 +108,9 @@ func (o user) readsShown(p, value unsafe.Pointer, size uintptr) bool {
 	}
 	recorded := o.g.beginUnlocked()
 	if recorded {
-		o.put(wire.Read, uint32(shown>>32), bytes)
+		if object := uint32(shown >> 32); !o.goesOn(wire.Read, object, bytes) { // at once what put would do
+			o.putRecord(wire.Read, object, bytes)
+		}
 		o.g.does()
 	}
 	o.g.endUnlocked()

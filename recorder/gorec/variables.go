@@ -55,15 +55,42 @@ func Read[T any](p *T, s *Site) T {
 		return *p
 	}
 	if unsafe.Sizeof(*p) == 1 {
-		if l := g.atClaimed(wire.Read, unsafe.Pointer(p), s); l != nil {
-			v := *p
-			if !g.comesTo(l, unsafe.Pointer(p)) {
-				g.at(s).cameTo(wire.Read, unsafe.Pointer(p))
-			}
+		if v, ok := readClaimed(p, g, s); ok {
 			return v
 		}
 	}
 	return readBy(p, g.at(s))
+}
+
+// ReadHere is Read by g, which Here answered.
+func ReadHere[T any](g *G, p *T, s *Site) T {
+	_ = *p
+	if alone() {
+		return *p
+	}
+	g = g.still(s)
+	if g.hasRead(unsafe.Pointer(p), unsafe.Sizeof(*p)) {
+		return *p
+	}
+	if unsafe.Sizeof(*p) == 1 {
+		if v, ok := readClaimed(p, g, s); ok {
+			return v
+		}
+	}
+	return readBy(p, g.at(s))
+}
+
+// readClaimed is a read of a byte that the goroutine has claimed (loops.go), if it has.
+func readClaimed[T any](p *T, g *G, s *Site) (v T, ok bool) {
+	l := g.atClaimed(wire.Read, unsafe.Pointer(p), s)
+	if l == nil {
+		return v, false
+	}
+	v = *p
+	if !g.comesTo(l, unsafe.Pointer(p)) {
+		g.at(s).cameTo(wire.Read, unsafe.Pointer(p))
+	}
+	return v, true
 }
 
 // read answers the value at p, and who read it unless that has no record.
@@ -100,16 +127,14 @@ func readBy[T any](p *T, o user) (v T) {
 	return v
 }
 
-func set[T any](p *T, v T, s *Site) { setBy(p, v, s, user{}) }
-
-// setBy is set by who has read at the same place, if that is known.
+// setBy sets what stands at p, by who has read at the same place, or who Here answered: o has what is known.
 func setBy[T any](p *T, v T, s *Site, o user) {
 	_ = *p
 	if alone() {
 		*p = v
 		return
 	}
-	g := current(s)
+	g := o.g.still(s)
 	if unsafe.Sizeof(*p) == 1 {
 		if l := g.atClaimed(wire.Write, unsafe.Pointer(p), s); l != nil {
 			if *p = v; !g.comesTo(l, unsafe.Pointer(p)) {
@@ -122,7 +147,7 @@ func setBy[T any](p *T, v T, s *Site, o user) {
 		*p = v
 		return
 	}
-	if o.g != g {
+	if o.s == nil {
 		o = g.at(s)
 	}
 	if unsafe.Sizeof(*p) == 1 && layoutAt(p, s).single == 1 && writtenInLoop(o, p, v) {
@@ -159,11 +184,15 @@ func New[T any](p *T, s *Site) *T {
 type Target[T any] struct {
 	p   *T
 	s   *Site
+	g   *G // nil: it isn't known
 	set func(T)
 }
 
 // To is a recorded location that is assigned to.
 func To[T any](p *T, s *Site) Target[T] { return Target[T]{p: p, s: s} }
+
+// ToHere is To by g, which Here answered.
+func ToHere[T any](g *G, p *T, s *Site) Target[T] { return Target[T]{p: p, s: s, g: g} }
 
 // Plain is a location that isn't recorded.
 func Plain[T any](p *T) Target[T] { return Target[T]{p: p} }
@@ -198,7 +227,7 @@ func (t Target[T]) Set(v T) {
 	case t.s == nil:
 		*t.p = v
 	default:
-		set(t.p, v, t.s)
+		setBy(t.p, v, t.s, user{g: t.g})
 	}
 }
 

@@ -98,7 +98,7 @@ func (r *rewriter) assignOne(s *ast.AssignStmt) {
 	default:
 		l := s.Lhs[0]
 		site := r.locationSite(s, l)
-		r.wrap(l, "gorec.To(&", func() { r.leftSide(l) }, ", "+site)
+		r.wrap(l, r.access("To", l)+"&", func() { r.leftSide(l) }, ", "+site)
 		r.replaceToken(s, ").Set(")
 		r.alone(s.Rhs[0])
 		r.insert(s.End(), ")")

@@ -84,7 +84,7 @@ func (r *rewriter) read(e ast.Expr) {
 		return
 	}
 	s := r.locationSite(e, e)
-	r.wrap(e, "gorec.Read(&", func() { r.address(e) }, ", "+s+")")
+	r.wrap(e, r.access("Read", e)+"&", func() { r.address(e) }, ", "+s+")")
 }
 
 // address changes what is evaluated for e's address.

@@ -237,7 +237,7 @@ func (l *loop) overSlice() {
 	l.insert(l.s.X.End(), end+"); "+i+" < "+l.predeclared("len", l.s)+"("+a+"); "+i+"++")
 	element := ""
 	if l.value != "" {
-		element = "gorec.Read(&" + a + "[" + i + "], " + l.siteOfElement() + ")"
+		element = l.access("Read", l.s.Body) + "&" + a + "[" + i + "], " + l.siteOfElement() + ")"
 	}
 	l.body(l.giveBoth(i, element) + " ")
 }

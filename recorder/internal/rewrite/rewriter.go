@@ -42,6 +42,7 @@ type rewriter struct {
 	within    ast.Node                // the function
 	behind    map[ast.Expr]string     // what stands behind an argument
 	labeled   ast.Stmt                // the last statement with a label
+	here      *loopOfOne              // the loop that is changed, if one goroutine does all of it (here.go)
 	postponed bool                    // a call is changed that is made later
 	pointers  map[ast.Node]string     // to the results of functions in which another variable has their name
 	late      map[ast.Expr]bool       // reads that are recorded after a call (order.go)

@@ -52,7 +52,9 @@ func (r *rewriter) statement(s ast.Stmt, inBlock bool) {
 	case *ast.SelectStmt:
 		r.selectStatement(s)
 	case *ast.RangeStmt:
+		end := r.beginLoop(s, s.X)
 		r.rangeStatement(s)
+		end()
 	default:
 		r.branching(s)
 	}
@@ -67,10 +69,12 @@ func (r *rewriter) branching(s ast.Stmt) {
 		r.block(s.Body)
 		r.statement(s.Else, true)
 	case *ast.ForStmt:
+		end := r.beginLoop(s, s.Init)
 		r.statement(s.Init, false)
 		r.alone(s.Cond)
 		r.statement(s.Post, false)
 		r.block(s.Body)
+		end()
 	case *ast.SwitchStmt:
 		r.statement(s.Init, false)
 		r.alone(s.Tag)

@@ -2,6 +2,7 @@ package gorec
 
 import (
 	"reflect"
+	"runtime"
 	"unsafe"
 
 	"gorace.local/recorder/wire"
@@ -12,7 +13,7 @@ import (
 // waits, as Go's own channels do. A channel that the program didn't make, or that it gave to
 // code without the recorder, is foreign: its operations are done and not written.
 type channel struct {
-	p        unsafe.Pointer
+	p        uintptr // 0 once it is forgotten
 	id       uint32
 	part     uint32 // the last one that it is in
 	site     uint32 // where it was made
@@ -28,7 +29,35 @@ type channel struct {
 	takers   queue
 }
 
-var channels = map[unsafe.Pointer]*channel{}
+// channels are by their addresses, which don't keep them alive.
+var channels = map[uintptr]*channel{}
+
+// know has the lock: p is this channel, until nobody can use it any more. What is made there comes
+// later, since what has a finalizer keeps its memory until that has run.
+func (ch *channel) know(p unsafe.Pointer) {
+	ch.p = uintptr(p)
+	if other := channels[ch.p]; other != nil {
+		other.p = 0 // so that no site takes it for this one
+	} else {
+		runtime.SetFinalizer((*byte)(p), forgetChannel)
+	}
+	channels[ch.p] = ch
+}
+
+func forgetChannel(p *byte) {
+	begin()
+	defer mu.Unlock()
+	ch := knownChannel(unsafe.Pointer(p))
+	delete(channels, ch.p)
+	ch.p = 0
+	if d := ch.done; d != nil {
+		d.leaves()
+		d.endTimer()
+	}
+}
+
+// knownChannel has the lock; it is nil for one that isn't known.
+func knownChannel(p unsafe.Pointer) *channel { return channels[uintptr(p)] }
 
 // pointerTo is the pointer that the channel at c is. It has no type parameter: where T is error,
 // Go 1.19 can't export a short method that calls something of chan T.
@@ -39,14 +68,14 @@ func channelAt(p unsafe.Pointer, g *G, s *Site) *channel {
 	if p == nil {
 		return nil
 	}
-	if s.channel != nil && s.channel.p == p {
+	if s.channel != nil && s.channel.p == uintptr(p) {
 		s.channel.enter()
 		return s.channel
 	}
-	c := channels[p]
+	c := knownChannel(p)
 	if c == nil {
-		c = &channel{p: p, foreign: true}
-		channels[p] = c
+		c = &channel{foreign: true}
+		c.know(p)
 		g.lose(wire.LostChannel, s)
 	}
 	c.enter()
@@ -62,7 +91,8 @@ func Made[C any](c C, s *Site) C {
 	begin()
 	p := pointerTo(unsafe.Pointer(&c))
 	capacity := reflect.ValueOf(c).Cap()
-	channels[p] = &channel{p: p, capacity: capacity, id: declare(wire.DeclareChan, 0, uint64(capacity), s), part: part, site: s.ID}
+	ch := &channel{capacity: capacity, id: declare(wire.DeclareChan, 0, uint64(capacity), s), part: part, site: s.ID}
+	ch.know(p)
 	mu.Unlock()
 	return c
 }

@@ -16,6 +16,9 @@ import (
 type doneChannel struct {
 	channel  *channel
 	timer    *G // or the test's, where it is a test's context
+	ownTimer bool
+	parent   *doneChannel // nil once either of the two is closed
+	place    int          // among the parent's children
 	children []*doneChannel
 	by       *G // who is about to cancel it, at a place
 	at       *Site
@@ -40,7 +43,7 @@ func ownParentOf(parent context.Context, s *Site) *ownParent {
 	done := parent.Done()
 	begin()
 	defer mu.Unlock()
-	if ch := channels[pointerTo(unsafe.Pointer(&done))]; done != nil && ch.isPlain() {
+	if ch := knownChannel(pointerTo(unsafe.Pointer(&done))); done != nil && ch.isPlain() {
 		return &ownParent{Context: parent, channel: ch, s: s}
 	}
 	return nil
@@ -94,7 +97,7 @@ var doneAtBirth = func() unsafe.Pointer {
 	defer cancel()
 	done := ctx.Done()
 	p := pointerTo(unsafe.Pointer(&done))
-	channels[p] = &channel{p: p, foreign: true, closed: true}
+	channels[uintptr(p)] = &channel{p: uintptr(p), foreign: true, closed: true}
 	return p
 }()
 
@@ -107,36 +110,56 @@ func newDone(parent, ctx context.Context, own *ownParent, deadline bool, s *Site
 	if done == nil {
 		return nil
 	}
-	up, p := channels[pointerTo(unsafe.Pointer(&above))], pointerTo(unsafe.Pointer(&done))
+	up, p := knownChannel(pointerTo(unsafe.Pointer(&above))), pointerTo(unsafe.Pointer(&done))
 	if p == doneAtBirth {
 		if up != nil && up.done != nil && isClosed(above) {
 			g.findsDone(up, s)
 		}
 		return nil
 	}
-	ch := &channel{p: p, id: declare(wire.DeclareChan, 0, 0, s), part: part, site: s.ID}
+	ch := &channel{id: declare(wire.DeclareChan, 0, 0, s), part: part, site: s.ID}
 	d := &doneChannel{channel: ch}
 	ch.done = d
-	channels[ch.p] = ch
+	ch.know(p)
 	own.ends(d)
 	if deadline {
-		d.timer = newGoroutine()
+		d.timer, d.ownTimer = newGoroutine(), true
 		d.timer.site, d.timer.stack = s.ID, stackNumber()
 		g.step(wire.Record{Op: wire.Go, Other: d.timer.id, Site: s.ID, OtherSite: d.timer.stack})
 	}
 	if up != nil && up.done != nil {
-		up.done.children = append(up.done.children, d)
-		switch {
-		case up.closed: // canceled at birth
-			g.findsDone(up, s)
-			d.close(g, s)
-		case up.done.by != nil: // which may have missed it
-			d.cancels(up.done.by, up.done.at)
-		case d.timer == nil:
-			d.timer = up.done.timer
-		}
+		d.isMadeOf(up, g, s)
 	}
 	return d
+}
+
+// isMadeOf has the lock: g made the context from that of up.
+func (d *doneChannel) isMadeOf(up *channel, g *G, s *Site) {
+	if up.closed { // canceled at birth
+		g.findsDone(up, s)
+		d.close(g, s)
+		return
+	}
+	d.parent, d.place = up.done, len(up.done.children)
+	up.done.children = append(up.done.children, d)
+	switch {
+	case up.done.by != nil: // which may have missed it
+		d.cancels(up.done.by, up.done.at)
+	case d.timer == nil:
+		d.timer = up.done.timer
+	}
+}
+
+// leaves has the lock: the parent has this child no more.
+func (d *doneChannel) leaves() {
+	if d.parent == nil {
+		return
+	}
+	children := d.parent.children
+	last := children[len(children)-1]
+	children[d.place], last.place = last, d.place
+	children[len(children)-1] = nil
+	d.parent.children, d.parent = children[:len(children)-1], nil
 }
 
 // isClosed is asked of a context's Done, on which nobody sends.
@@ -164,8 +187,22 @@ func (d *doneChannel) close(g *G, s *Site) {
 		g.note(wire.Close, d.channel.id, s)
 		d.channel.serve()
 	}
-	for _, c := range d.children {
-		c.close(g, s)
+	d.leaves()
+	for len(d.children) > 0 {
+		d.children[len(d.children)-1].close(g, s)
+	}
+	d.endTimer()
+}
+
+// endTimer has the lock: the goroutine that was started for the deadline does nothing any more.
+func (d *doneChannel) endTimer() {
+	if !d.ownTimer {
+		return
+	}
+	d.ownTimer = false
+	delete(goingOn, d.timer)
+	if d.timer.part == part {
+		d.timer.note(wire.Exit, 0, nowhere)
 	}
 }
 
@@ -327,7 +364,7 @@ func foundDone(ctx context.Context, order uint32, s *Site) {
 	begin()
 	defer mu.Unlock()
 	g.acquire(order, s)
-	switch ch := channels[pointerTo(unsafe.Pointer(&done))]; {
+	switch ch := knownChannel(pointerTo(unsafe.Pointer(&done))); {
 	case ch == nil:
 	case ch.done != nil:
 		g.findsDone(ch, s)
@@ -356,7 +393,7 @@ func (x ContextAt) Err() error {
 	g := current(x.s)
 	begin()
 	defer mu.Unlock()
-	if ch := channels[pointerTo(unsafe.Pointer(&done))]; ch != nil && ch.done != nil {
+	if ch := knownChannel(pointerTo(unsafe.Pointer(&done))); ch != nil && ch.done != nil {
 		g.findsDone(ch, x.s)
 	}
 	return err

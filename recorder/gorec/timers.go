@@ -10,10 +10,10 @@ import (
 // set has the lock: g is about to set the timer with this channel.
 func (g *G) set(c <-chan time.Time, s *Site) {
 	p := pointerTo(unsafe.Pointer(&c))
-	ch := channels[p]
+	ch := knownChannel(p)
 	if ch == nil {
-		ch = &channel{p: p, foreign: true}
-		channels[p] = ch
+		ch = &channel{foreign: true}
+		ch.know(p)
 	}
 	ch.order = g.release(s)
 }

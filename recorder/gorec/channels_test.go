@@ -1,0 +1,46 @@
+package gorec
+
+import (
+	"context"
+	"runtime"
+	"testing"
+	"time"
+	"unsafe"
+)
+
+// TestForgotten: what nobody can use any more takes no memory, nor does what is made of a context that
+// lives on.
+func TestForgotten(t *testing.T) {
+	record(t)
+	parent, stop := WithCancel(context.Background(), &Site{})
+	defer stop()
+	count := func() (n int) {
+		mu.Lock()
+		defer mu.Unlock()
+		done := parent.Done()
+		return len(channels) + len(goingOn) + len(knownChannel(pointerTo(unsafe.Pointer(&done))).done.children)
+	}
+	before := count()
+	const made = 100
+	for i := 0; i < made; i++ {
+		Made(make(chan *int, 1), &Site{})
+		TimerChannel(make(chan time.Time), &Site{})
+		_, cancel := WithCancel(parent, &Site{})
+		cancel()
+		_, cancel = WithTimeout(parent, time.Hour, &Site{})
+		cancel()
+		ReceiveOK(closedBy(func(c chan int) { close(c) }), &Site{})
+	}
+	for i := 0; count() >= before+made; i++ {
+		if i == 1000 {
+			t.Fatalf("%d of %d are known yet", count()-before, 7*made)
+		}
+		runtime.GC()
+	}
+}
+
+func closedBy(f func(chan int)) chan int {
+	c := make(chan int)
+	f(c)
+	return c
+}

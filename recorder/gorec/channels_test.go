@@ -8,8 +8,8 @@ import (
 	"unsafe"
 )
 
-// TestForgotten: what nobody can use any more takes no memory, nor does what is made of a context that
-// lives on.
+// TestForgotten: channels and timers that nobody can use any more take no memory, nor do contexts that
+// have ended and were made of one that goes on.
 func TestForgotten(t *testing.T) {
 	record(t)
 	parent, stop := WithCancel(context.Background(), &Site{})
@@ -18,7 +18,7 @@ func TestForgotten(t *testing.T) {
 		mu.Lock()
 		defer mu.Unlock()
 		done := parent.Done()
-		return len(channels) + len(goingOn) + len(knownChannel(pointerTo(unsafe.Pointer(&done))).done.children)
+		return len(channels) + len(laters) + len(goingOn) + len(knownChannel(pointerTo(unsafe.Pointer(&done))).done.children)
 	}
 	before := count()
 	const made = 100
@@ -29,11 +29,12 @@ func TestForgotten(t *testing.T) {
 		cancel()
 		_, cancel = WithTimeout(parent, time.Hour, &Site{})
 		cancel()
+		AfterFunc(time.Hour, func() {}, &Site{}).Stop()
 		ReceiveOK(closedBy(func(c chan int) { close(c) }), &Site{})
 	}
 	for i := 0; count() >= before+made; i++ {
 		if i == 1000 {
-			t.Fatalf("%d of %d are known yet", count()-before, 7*made)
+			t.Fatalf("%d of %d are known yet", count()-before, 9*made)
 		}
 		runtime.GC()
 	}

@@ -196,13 +196,9 @@ func (d *doneChannel) close(g *G, s *Site) {
 
 // endTimer has the lock: the goroutine that was started for the deadline does nothing any more.
 func (d *doneChannel) endTimer() {
-	if !d.ownTimer {
-		return
-	}
-	d.ownTimer = false
-	delete(goingOn, d.timer)
-	if d.timer.part == part {
-		d.timer.note(wire.Exit, 0, nowhere)
+	if d.ownTimer {
+		d.ownTimer = false
+		d.timer.endsUnseen()
 	}
 }
 

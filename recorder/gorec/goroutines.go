@@ -201,13 +201,20 @@ func (t *tag) ended() {
 	begin()
 	defer mu.Unlock()
 	delete(adopted, t.of)
-	delete(goingOn, t.of)
 	if t.of.part == part {
 		t.of.leaveWork()
-		t.of.note(wire.Exit, 0, nowhere)
 	}
+	t.of.endsUnseen()
 	t.of.g = 0
 	t.of.reads, t.of.writes = repeats{}, repeats{}
+}
+
+// endsUnseen has the lock: the goroutine does nothing any more.
+func (g *G) endsUnseen() {
+	delete(goingOn, g)
+	if g.part == part {
+		g.note(wire.Exit, 0, nowhere)
+	}
 }
 
 // newGoroutine has the lock.

@@ -1,6 +1,7 @@
 package gorec
 
 import (
+	"runtime"
 	"time"
 	"unsafe"
 )
@@ -50,7 +51,8 @@ type later struct {
 	order uint32 // of who set the timer again before that call
 }
 
-var laters = map[unsafe.Pointer]*later{} // by the timers
+// laters are by their timers, which they don't keep alive.
+var laters = map[uintptr]*later{}
 
 // AfterFunc is that of package time.
 func AfterFunc(d time.Duration, f func(), s *Site) *time.Timer {
@@ -62,8 +64,19 @@ func AfterFunc(d time.Duration, f func(), s *Site) *time.Timer {
 	defer mu.Unlock()
 	l := &later{f: f, s: s, next: g.start(s)}
 	t := time.AfterFunc(d, l.call)
-	laters[unsafe.Pointer(t)] = l
+	laters[uintptr(unsafe.Pointer(t))] = l
+	runtime.SetFinalizer(t, forgetLater)
 	return t
+}
+
+func forgetLater(t *time.Timer) {
+	begin()
+	defer mu.Unlock()
+	at := uintptr(unsafe.Pointer(t))
+	if g := laters[at].next; g != nil {
+		g.endsUnseen()
+	}
+	delete(laters, at)
 }
 
 func (l *later) call() {
@@ -115,7 +128,7 @@ func (x TimerAt) Reset(d time.Duration) bool {
 	if !off && x.t.C == nil {
 		g := current(x.s)
 		begin()
-		if l := laters[unsafe.Pointer(x.t)]; l != nil {
+		if l := laters[uintptr(unsafe.Pointer(x.t))]; l != nil {
 			l.setAgain(g, x.s)
 		}
 		mu.Unlock()

@@ -21,6 +21,7 @@ type channel struct {
 	buffered int // values in the buffer
 	closed   bool
 	foreign  bool
+	timer    bool   // its timer alone sends on it
 	order    uint32 // of a foreign one: what comes before each receive, as a timer's start
 	done     *doneChannel
 	sent     uint64

@@ -2,6 +2,7 @@ package gorec
 
 import (
 	"reflect"
+	"time"
 	"unsafe"
 
 	"gorace.local/recorder/wire"
@@ -22,15 +23,23 @@ type communication interface {
 // Taking is a receive.
 type Taking[T any] struct {
 	operation
-	c     <-chan T
-	Value T
-	OK    bool
+	c      <-chan T
+	closes bool // nobody sends on it
+	Value  T
+	OK     bool
 }
 
 // CaseReceive is a receive of a select.
 func CaseReceive[T any](c <-chan T) *Taking[T] {
 	r := &Taking[T]{c: c}
 	r.self = r
+	return r
+}
+
+// CaseDone is a receive of a select from the Done of a context, which may be one of the library's.
+func CaseDone(done <-chan struct{}) *Taking[struct{}] {
+	r := CaseReceive(done)
+	r.closes = true
 	return r
 }
 
@@ -147,31 +156,20 @@ func Select(s *Site, hasDefault bool, cases ...communication) int {
 func communicate(s *Site, hasDefault bool, cases []communication) int {
 	g := current(s)
 	begin()
-	poll, others := false, 0
-	var over <-chan struct{}
+	var by byOthers
 	for i, c := range cases {
 		o := c.state()
 		o.index = i
 		o.channel = channelAt(c.pointer(), g, s)
-		switch {
-		case o.channel == nil:
-			others++
-		case o.channel.foreign:
-			poll = true
-			others++
-		case o.channel.done != nil:
-			r, ok := c.(*Taking[struct{}])
-			if poll = poll || !ok || over != nil; ok {
-				over = r.c
-			}
-		}
+		by.add(c)
 	}
-	if len(cases) == 1 && !hasDefault && poll && cases[0].state().channel.foreign {
+	switch {
+	case hasDefault || by.foreign == 0:
+	case len(cases) == 1:
 		mu.Unlock()
 		waitForeign(g, s, cases[0])
 		return 0
-	}
-	if others == len(cases) && !hasDefault && poll {
+	case by.foreign+by.none == len(cases):
 		mu.Unlock()
 		i := plainSelect(false, cases)
 		g.foundForeign(s, cases[i])
@@ -190,10 +188,46 @@ func communicate(s *Site, hasDefault bool, cases []communication) int {
 		}
 		return i
 	}
-	w := g.wait(s, cases, poll)
-	w.over = over
+	w := g.wait(s, cases, by.polls)
+	w.over, w.timer = by.over, by.timer
 	mu.Unlock()
-	return w.sleep(poll)
+	return w.sleep(by.polls)
+}
+
+// byOthers says which cases code without the recorder may make possible, and how these are waited for.
+type byOthers struct {
+	none    int                // cases of nil channels
+	foreign int                // of channels that the program didn't make
+	over    <-chan struct{}    // the Done of a context, which Go's own means can wait for
+	timer   *Taking[time.Time] // a timer's channel, to which what was received can be given back
+	polls   bool               // there are others, which are tried again and again
+}
+
+// add has the lock.
+func (by *byOthers) add(c communication) {
+	ch := c.state().channel
+	switch {
+	case ch == nil:
+		by.none++
+		return
+	case ch.foreign:
+		by.foreign++
+	case ch.done == nil:
+		return
+	}
+	switch c := c.(type) {
+	case *Taking[struct{}]:
+		if by.over == nil && (c.closes || ch.done != nil) {
+			by.over = c.c
+			return
+		}
+	case *Taking[time.Time]:
+		if by.timer == nil && ch.timer {
+			by.timer = c
+			return
+		}
+	}
+	by.polls = true
 }
 
 // waitForeign does a lone operation on a foreign channel, which is waited for by Go's means.

@@ -16,7 +16,7 @@ func (g *G) set(c <-chan time.Time, s *Site) {
 		ch = &channel{foreign: true}
 		ch.know(p)
 	}
-	ch.order = g.release(s)
+	ch.timer, ch.order = true, g.release(s)
 }
 
 // TimerChannel is what time.After and time.Tick answer.

@@ -1,6 +1,9 @@
 package gorec
 
-import "time"
+import (
+	"time"
+	"unsafe"
+)
 
 // Who has to wait for a channel waits in its queues, until whoever makes the operation
 // possible has done it.
@@ -69,6 +72,7 @@ type waiter struct {
 	panics bool            // it sends on a channel that was closed
 	polls  bool            // it tries by itself, since code without the recorder may make a case possible
 	over   <-chan struct{} // a context's, which code without the recorder may close
+	timer  *Taking[time.Time]
 }
 
 // wait has the lock: g waits for one of its cases.
@@ -144,6 +148,10 @@ func (w *waiter) sleep(polls bool) int {
 				<-w.g.wake // what lend sent
 			}
 			polls = true
+		case now := <-w.ticks():
+			if w.ticked(now) {
+				return w.timer.index
+			}
 		}
 	}
 	if polls {
@@ -155,6 +163,37 @@ func (w *waiter) sleep(polls bool) int {
 		w.cases[w.which].wait()
 	}
 	return w.which
+}
+
+// ticks is the timer's channel, nil where there is none.
+func (w *waiter) ticks() <-chan time.Time {
+	if w.timer == nil {
+		return nil
+	}
+	return w.timer.c
+}
+
+// ticked reports whether what the timer sent does its case. If others did one meanwhile it is given back,
+// or is late where the timer has sent again.
+func (w *waiter) ticked(now time.Time) bool {
+	begin()
+	defer mu.Unlock()
+	served := w.done
+	if !served {
+		w.leave()
+		w.timer.Value, w.timer.OK = now, true
+		w.g.acquire(w.timer.channel.order, w.s)
+	} else {
+		<-w.g.wake
+		select {
+		case *(*chan time.Time)(unsafe.Pointer(&w.timer.c)) <- now:
+		default:
+		}
+	}
+	if w.polls {
+		<-w.g.wake // what lend sent
+	}
+	return !served
 }
 
 // pollNow has w try by itself from now on. It reports whether a channel was lent before, which woke

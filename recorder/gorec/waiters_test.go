@@ -67,6 +67,48 @@ func TestContextEnds(t *testing.T) {
 	})
 }
 
+// Who waits for a channel and for a timer goes on when the timer sends, which may be before it waits.
+func TestTimerSends(t *testing.T) {
+	record(t)
+	newTurns(t, 1).do(0, func() {
+		for limit := time.Millisecond; limit < time.Minute; limit *= 10 {
+			tick := CaseReceive(NewTimer(time.NewTimer(limit), nowhere).C)
+			other := CaseReceive((<-chan int)(Made(make(chan int), nowhere)))
+			if i := Select(nowhere, false, other, tick); i != 1 || !tick.OK || tick.Value.IsZero() {
+				t.Errorf("case %d, %v", i, tick.OK)
+			}
+			if w := &current(nowhere).waiter; w.timer == tick && !w.polls {
+				return
+			}
+		}
+		t.Error("it doesn't wait for the timer")
+	})
+}
+
+// What a timer sent is given back where another case was done meanwhile.
+func TestGivenBack(t *testing.T) {
+	record(t)
+	timer := time.NewTimer(0)
+	now := <-timer.C
+	tick, other := CaseReceive(timer.C), CaseReceive[int](nil)
+	other.index = 1
+	g := &G{wake: make(chan struct{}, 2)}
+	w := g.wait(nowhere, []communication{tick, other}, false)
+	w.timer = tick
+	other.finish()
+	if w.ticked(now) || w.which != 1 {
+		t.Errorf("case %d was done", w.which)
+	}
+	select {
+	case again := <-timer.C:
+		if !again.Equal(now) {
+			t.Errorf("%v in place of %v", again, now)
+		}
+	default:
+		t.Error("the timer's channel is empty")
+	}
+}
+
 // Who polls for an hour tries about a hundred times a second. No pause is long beside the wait so far.
 func TestPauses(t *testing.T) {
 	tries, waited := 0, time.Duration(0)

@@ -74,8 +74,13 @@ func (r *rewriter) communication(s ast.Stmt) string {
 	case *ast.AssignStmt:
 		e = s.Rhs[0]
 	}
-	c := unparen(e).(*ast.UnaryExpr).X
-	return "gorec.CaseReceive(" + r.render(c, func() { r.alone(c) }) + ")"
+	c, receive := unparen(e).(*ast.UnaryExpr).X, "gorec.CaseReceive("
+	if call, ok := unparen(c).(*ast.CallExpr); ok {
+		if f := r.callee(call); f != nil && f.FullName() == "(context.Context).Done" {
+			receive = "gorec.CaseDone("
+		}
+	}
+	return receive + r.render(c, func() { r.alone(c) }) + ")"
 }
 
 // received is what a case does with what it received, at the begin of its statements.

@@ -31,6 +31,7 @@ type pair struct{ c, d int }
 type thing struct { a int; b pair }
 func (t *thing) f(int) {}
 func (t thing) value(int) int { return t.a }
+func (t *thing) done() chan int { return nil }
 type lockable struct { sync.Mutex; inner *thing }
 type locking interface { Lock(); Unlock() }
 

@@ -21,7 +21,7 @@ var passing = map[string][]string{
 	"*bufio.Reader": {"rd"}, "*bufio.Writer": {"wr"}, "*bufio.Scanner": {"r"}, "*csv.Reader": {"r"}, "*csv.Writer": {"w"},
 	"*json.Decoder": {"r", "dec.s.rd"}, "*json.Encoder": {"w"}, "*tabwriter.Writer": {"output"},
 	"*textproto.Reader": {"R"}, "textproto.Reader": {"R"}, "*textproto.Writer": {"W"}, "textproto.Writer": {"W"},
-	"*http.connReader": {"conn.rwc"}, "*gob.Decoder": {"r"}, "*gob.Encoder": {"w"}, "*xml.Decoder": {"r"}, "*xml.Encoder": {"p.Writer", "p.w"},
+	"*http.connReader": {"rwc", "conn.rwc"}, "*gob.Decoder": {"r"}, "*gob.Encoder": {"w"}, "*xml.Decoder": {"r"}, "*xml.Encoder": {"p.Writer", "p.w"},
 }
 
 // outletOf is the file's or the connection's type that a Reader or a Writer is of, or that it

@@ -1,6 +1,7 @@
 package gorec
 
 import (
+	"math"
 	"sync/atomic"
 	"unsafe"
 
@@ -19,8 +20,12 @@ const enough = 3 << 10 // three quarters of a table
 // ages are told apart of what isn't used. One lasts while that part of the limit is met anew.
 const ages = 4
 
-// mostOfShard is how many variables a shard knows at once, since that takes memory too.
+// mostOfShard is how many variables a shard knows at once, since that takes memory too. Where a run has
+// one log it knows all that several goroutines use.
 func mostOfShard() int {
+	if partRecords == 0 {
+		return math.MaxInt32
+	}
 	if n := partRecords / 16 * 3 / shardCount; n > fewest/2 {
 		return n
 	}
@@ -59,7 +64,7 @@ func (sh *shard) makeRoom() {
 }
 
 // isCrowded reports whether so many variables are known that some are to be forgotten.
-func (sh *shard) isCrowded() bool { return partRecords > 0 && sh.met >= sh.limit }
+func (sh *shard) isCrowded() bool { return sh.met >= sh.limit }
 
 // oldest is for how many ages a variable wasn't used if it goes, so that a quarter goes.
 func (sh *shard) oldest() uint8 {

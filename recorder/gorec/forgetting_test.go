@@ -8,9 +8,14 @@ import (
 
 // Where too many variables are known those that several goroutines use stay what they are, and
 // of those that one alone uses what it did is forgotten: nothing of it is written later.
-func TestForgetting(t *testing.T) {
+func TestForgetting(t *testing.T) { forgetting(t, 1<<18) }
+
+// So it is where a run has one log.
+func TestForgettingOfOneLog(t *testing.T) { forgetting(t, 0) }
+
+func forgetting(t *testing.T, size int) {
 	record(t)
-	exclusive, partRecords = true, 1<<18
+	exclusive, partRecords = true, size
 	t.Cleanup(func() { partRecords = 0 })
 	met := func() (n int) {
 		for i := range shards {
@@ -36,7 +41,7 @@ func TestForgetting(t *testing.T) {
 		for _, p := range alone {
 			To(p, &sites[3]).Set(1)
 		}
-		for i := 0; i < 5*shardCount*mostOfShard(); i++ {
+		for i := 0; i < 5*shardCount*firstLimit(); i++ {
 			To(new(int), &sites[4]).Set(1)
 			if i%shardCount == 0 {
 				Read(often, &Site{ID: 8}) // at a site of its own, so it repeats none
@@ -61,7 +66,7 @@ func TestForgetting(t *testing.T) {
 		}
 	}
 	switch {
-	case header.Forgotten == 0 || met() > shardCount*mostOfShard():
+	case header.Forgotten == 0 || met() > shardCount*firstLimit():
 		t.Errorf("%d were forgotten, %d are known", header.Forgotten, met())
 	case kept > len(alone)/2 || objects[4] != 0:
 		t.Errorf("what was forgotten has records: %d, %v", kept, objects)

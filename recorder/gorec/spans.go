@@ -197,9 +197,7 @@ func (o user) joinsSpan(op wire.Op, sh *shard, p unsafe.Pointer) bool {
 	n := t.used
 	if n >= len(t.keys) || uintptr(t.keys[n])>>blockBits != uintptr(p)>>blockBits || t.all[n].owner != o.g.id+1 {
 		if n = t.spanOf(o.g, p); n < 0 {
-			if sh.newSpan(p) == nil {
-				return false
-			}
+			sh.newSpan(p)
 			n = t.used
 			t.all[n].owner, t.all[n].site = o.g.id+1, o.s.ID
 		}
@@ -382,9 +380,7 @@ func (o user) spanFor(op wire.Op, sh *shard, b blockPart, words uint64, s *span)
 		if !exclusive || bits.OnesCount64(words) < fewestWords {
 			return false
 		}
-		if s = sh.newSpan(b.word(bits.TrailingZeros64(words))); s == nil {
-			return false
-		}
+		s = sh.newSpan(b.word(bits.TrailingZeros64(words)))
 		s.owner, s.site = o.g.id+1, o.s.ID
 	}
 	if !s.use(o, op, b.bytes(words)) {
@@ -405,12 +401,9 @@ func (sh *shard) newSpan(p unsafe.Pointer) *span {
 		t.slots, t.all = make([]uint16, spanSlots), outside[span](mostSpans)
 	}
 	n := len(t.keys)
-	switch {
-	case n < mostSpans:
+	if n < mostSpans {
 		t.keys, t.loops, t.claims = append(t.keys, p), append(t.loops, nil), append(t.claims, nil)
-	case partRecords == 0:
-		return nil
-	default:
+	} else {
 		n = t.giveUp()
 		t.keys[n] = p
 	}

@@ -187,6 +187,14 @@ func tell(w io.Writer, s *trace.Summary, p *instrument.Program) {
 	}
 }
 
+// tellForgotten tells how often a variable was forgotten.
+func tellForgotten(w io.Writer, times int) {
+	if times > 0 {
+		fmt.Fprintf(w, "gorec: there was no room for all variables: %d times one was forgotten that one goroutine alone had used; "+
+			"races with what that did are missed\n", times)
+	}
+}
+
 // listed names each call with its number of places.
 func listed(missed map[string]int) string {
 	var names []string

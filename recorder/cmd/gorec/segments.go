@@ -298,10 +298,7 @@ func (j *judging) add(o *outcome, followed bool) {
 
 // tell tells at the end what lies between segments.
 func (j *judging) tell() {
-	if j.forgotten > 0 {
-		fmt.Fprintf(j.c.out, "gorec: there was no room for all variables: %d times one was forgotten that one goroutine alone had used; "+
-			"races with what that did are missed\n", j.forgotten)
-	}
+	tellForgotten(j.c.out, j.forgotten)
 	j.tellDoubts()
 	if j.segments == 1 {
 		return

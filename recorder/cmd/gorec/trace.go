@@ -62,5 +62,9 @@ func printTrace(path, sitesPath string, options trace.Options) error {
 	}
 	fmt.Fprintln(os.Stderr, "gorec: "+summary.Counts())
 	tell(os.Stderr, summary, &instrument.Program{})
+	tellForgotten(os.Stderr, log.Forgotten())
+	if options.Predict && log.Forgotten() > 0 {
+		fmt.Fprintln(os.Stderr, "gorec: so what is predicted from this trace may be false")
+	}
 	return nil
 }

@@ -42,12 +42,7 @@ func calledBack(object unsafe.Pointer, s *Site) func() {
 	if alone() {
 		return func() {}
 	}
-	var at [2]uintptr
-	runtime.Callers(4, at[:]) // behind Callers, calledBack, Called and the method
-	by := packageAt(at)
-	if passers[by] {
-		by = packageBefore()
-	}
+	by := callingPackage()
 	each, known := callers[by]
 	if !known {
 		return func() {}
@@ -71,6 +66,32 @@ func calledBack(object unsafe.Pointer, s *Site) func() {
 	}
 }
 
+// stackCaller is the package that calls a method with these calls on the stack.
+type stackCaller struct {
+	key stackKey
+	by  string
+}
+
+// stackCallers have the last ones by their keys.
+var stackCallers [1 << 8]unsafe.Pointer
+
+// callingPackage is the package that calls the method, if calledBack asks.
+func callingPackage() string {
+	key := hashReturns()
+	recent := &stackCallers[key>>56]
+	if c := (*stackCaller)(atomic.LoadPointer(recent)); hasFramePointers && c != nil && c.key == key {
+		return c.by
+	}
+	var at [2]uintptr
+	runtime.Callers(5, at[:]) // behind Callers, callingPackage, calledBack, Called and the method
+	by := packageAt(at)
+	if passers[by] {
+		by = packageBefore()
+	}
+	atomic.StorePointer(recent, unsafe.Pointer(&stackCaller{key, by}))
+	return by
+}
+
 // packageAt is the package that calls there.
 func packageAt(at [2]uintptr) string {
 	if by, known := knownCallers()[at]; known {
@@ -88,10 +109,10 @@ func packageAt(at [2]uintptr) string {
 	return by
 }
 
-// packageBefore is the last package that calls by means of others, if calledBack asks.
+// packageBefore is the last package that calls by means of others, if callingPackage asks.
 func packageBefore() (by string) {
 	var at [16]uintptr
-	frames := runtime.CallersFrames(at[:runtime.Callers(5, at[:])])
+	frames := runtime.CallersFrames(at[:runtime.Callers(6, at[:])])
 	for more := true; more; {
 		var f runtime.Frame
 		f, more = frames.Next()

@@ -35,21 +35,25 @@ var channels = map[uintptr]*channel{}
 
 // know has the lock: p is this channel, until nobody can use it any more. What is made there comes
 // later, since what has a finalizer keeps its memory until that has run.
-func (ch *channel) know(p unsafe.Pointer) {
+func (ch *channel) know(p unsafe.Pointer) { ch.knowWhile(p, p) }
+
+// knowWhile is know where the channel's end is that of what it leads to.
+func (ch *channel) knowWhile(p, used unsafe.Pointer) {
 	ch.p = uintptr(p)
 	if other := channels[ch.p]; other != nil {
-		other.p = 0 // so that no site takes it for this one
-	} else {
-		runtime.SetFinalizer((*byte)(p), forgetChannel)
+		other.p = 0                              // so that no site takes it for this one
+		runtime.SetFinalizer((*byte)(used), nil) // it may have been met before
 	}
 	channels[ch.p] = ch
+	runtime.SetFinalizer((*byte)(used), func(*byte) { ch.forget() })
 }
 
-func forgetChannel(p *byte) {
+func (ch *channel) forget() {
 	begin()
 	defer mu.Unlock()
-	ch := knownChannel(unsafe.Pointer(p))
-	delete(channels, ch.p)
+	if channels[ch.p] == ch {
+		delete(channels, ch.p)
+	}
 	ch.p = 0
 	if d := ch.done; d != nil {
 		d.leaves()

@@ -29,15 +29,24 @@ func TestForgotten(t *testing.T) {
 		cancel()
 		_, cancel = WithTimeout(parent, time.Hour, &Site{})
 		cancel()
+		NewTimer(time.NewTimer(time.Hour), &Site{}).Stop()
 		AfterFunc(time.Hour, func() {}, &Site{}).Stop()
+		stopsItself().Stop()
 		ReceiveOK(closedBy(func(c chan int) { close(c) }), &Site{})
 	}
 	for i := 0; count() >= before+made; i++ {
 		if i == 1000 {
-			t.Fatalf("%d of %d are known yet", count()-before, 9*made)
+			t.Fatalf("%d of %d are known yet", count()-before, 11*made)
 		}
 		runtime.GC()
 	}
+}
+
+// stopsItself is a timer that its function leads to.
+func stopsItself() *time.Timer {
+	var t *time.Timer
+	t = AfterFunc(time.Hour, func() { t.Stop() }, &Site{})
+	return t
 }
 
 func closedBy(f func(chan int)) chan int {

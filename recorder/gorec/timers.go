@@ -8,15 +8,22 @@ import (
 
 // A timer's channel is foreign; who set the timer last comes before who receives from it.
 
-// set has the lock: g is about to set the timer with this channel.
-func (g *G) set(c <-chan time.Time, s *Site) {
-	p := pointerTo(unsafe.Pointer(&c))
-	ch := knownChannel(p)
-	if ch == nil {
-		ch = &channel{foreign: true}
-		ch.know(p)
+// knowTimer has the lock; it is the channel of a timer, at p. From Go 1.23 that leads to its timer, and
+// so to itself: then no finalizer of it runs, but one of its buffer does. Another channel may be made
+// at p before.
+func knowTimer(p unsafe.Pointer) *channel {
+	ch, used := &channel{foreign: true, timer: true}, p
+	if b := (*buffered)(p); b.capacity > 0 {
+		used = b.values
 	}
-	ch.timer, ch.order = true, g.release(s)
+	ch.knowWhile(p, used)
+	return ch
+}
+
+// buffered is how a channel begins.
+type buffered struct {
+	_, capacity uint
+	values      unsafe.Pointer
 }
 
 // TimerChannel is what time.After and time.Tick answer.
@@ -24,10 +31,25 @@ func TimerChannel(c <-chan time.Time, s *Site) <-chan time.Time {
 	if !off && c != nil {
 		g := current(s)
 		begin()
-		g.set(c, s)
+		knowTimer(pointerTo(unsafe.Pointer(&c))).order = g.release(s)
 		mu.Unlock()
 	}
 	return c
+}
+
+// setTimer is for a timer's channel when that is about to be set again.
+func setTimer(c <-chan time.Time, s *Site) {
+	if off || c == nil {
+		return
+	}
+	p, g := pointerTo(unsafe.Pointer(&c)), current(s)
+	begin()
+	defer mu.Unlock()
+	ch := knownChannel(p)
+	if ch == nil {
+		ch = knowTimer(p)
+	}
+	ch.timer, ch.order = true, g.release(s)
 }
 
 // NewTimer is what time.NewTimer answers.
@@ -45,14 +67,17 @@ func NewTicker(t *time.Ticker, s *Site) *time.Ticker {
 // later is a function that a timer calls. Each call is a goroutine, which is started where
 // the timer is set.
 type later struct {
-	f     func()
-	s     *Site
+	timer uintptr
 	next  *G     // the goroutine of the next call
 	order uint32 // of who set the timer again before that call
 }
 
 // laters are by their timers, which they don't keep alive.
 var laters = map[uintptr]*later{}
+
+// lastUse is kept alive by the timer alone, which its function may lead to: then the timer would never
+// have a finalizer run.
+type lastUse struct{ of *later }
 
 // AfterFunc is that of package time.
 func AfterFunc(d time.Duration, f func(), s *Site) *time.Timer {
@@ -62,37 +87,43 @@ func AfterFunc(d time.Duration, f func(), s *Site) *time.Timer {
 	g := current(s)
 	begin()
 	defer mu.Unlock()
-	l := &later{f: f, s: s, next: g.start(s)}
-	t := time.AfterFunc(d, l.call)
-	laters[uintptr(unsafe.Pointer(t))] = l
-	runtime.SetFinalizer(t, forgetLater)
+	l := &later{next: g.start(s)}
+	u := &lastUse{l}
+	runtime.SetFinalizer(u, (*lastUse).forget)
+	t := time.AfterFunc(d, func() { u.call(f, s) })
+	l.timer = uintptr(unsafe.Pointer(t))
+	laters[l.timer] = l
 	return t
 }
 
-func forgetLater(t *time.Timer) {
+func (u *lastUse) forget() {
 	begin()
 	defer mu.Unlock()
-	at := uintptr(unsafe.Pointer(t))
-	if g := laters[at].next; g != nil {
-		g.endsUnseen()
+	l := u.of
+	if l.next != nil {
+		l.next.endsUnseen()
 	}
-	delete(laters, at)
+	if laters[l.timer] == l { // another timer may have been made there
+		delete(laters, l.timer)
+	}
 }
 
-func (l *later) call() {
+func (u *lastUse) call(f func(), s *Site) {
 	begin()
+	l := u.of
 	g, order := l.next, l.order
 	l.next, l.order = nil, 0
 	mu.Unlock()
+	runtime.KeepAlive(u) // else g might end before it begins
 	if g == nil {
-		l.f() // in a goroutine that is adopted
+		f() // in a goroutine that is adopted
 		return
 	}
-	g.run(l.s, func() {
+	g.run(s, func() {
 		begin()
-		g.acquire(order, l.s)
+		g.acquire(order, s)
 		mu.Unlock()
-		l.f()
+		f()
 	})
 }
 
@@ -133,12 +164,12 @@ func (x TimerAt) Reset(d time.Duration) bool {
 		}
 		mu.Unlock()
 	}
-	TimerChannel(x.t.C, x.s)
+	setTimer(x.t.C, x.s)
 	return x.t.Reset(d)
 }
 
 // Reset is that of the ticker.
 func (x TickerAt) Reset(d time.Duration) {
-	TimerChannel(x.t.C, x.s)
+	setTimer(x.t.C, x.s)
 	x.t.Reset(d)
 }

@@ -3,6 +3,7 @@ package gorec
 import (
 	"context"
 	"runtime"
+	"sync"
 	"testing"
 	"time"
 	"unsafe"
@@ -39,6 +40,22 @@ func TestForgotten(t *testing.T) {
 			t.Fatalf("%d of %d are known yet", count()-before, 11*made)
 		}
 		runtime.GC()
+	}
+}
+
+// TestUnused: what nobody waits for or adds to takes no memory, since it has no record, with which a log
+// would fill.
+func TestUnused(t *testing.T) {
+	record(t)
+	before := len(conditions) + len(groups)
+	for i := 0; i < 10; i++ {
+		c := sync.NewCond(&sync.Mutex{})
+		Cond(c, &Site{}).Signal()
+		Cond(c, &Site{}).Broadcast()
+		WaitGroup(&sync.WaitGroup{}, &Site{}).Wait()
+	}
+	if n := len(conditions) + len(groups) - before; n != 0 {
+		t.Errorf("%d conds and groups of 20 are known", n)
 	}
 }
 

@@ -25,6 +25,7 @@ type condition struct {
 	queue []*sleeper
 }
 
+// conditions are those for which somebody waits.
 var conditions = map[unsafe.Pointer]*condition{}
 
 // conditionAt has the lock.
@@ -81,17 +82,19 @@ func (x CondAt) wake(n int) {
 	g := current(x.s)
 	begin()
 	defer mu.Unlock()
-	c := conditionAt(x.c)
+	c := conditions[unsafe.Pointer(x.c)]
+	if c == nil { // nobody waits
+		return
+	}
 	if n > len(c.queue) {
 		n = len(c.queue)
-	}
-	if n == 0 {
-		return
 	}
 	order := g.release(x.s)
 	for _, w := range c.queue[:n] {
 		w.order = order
 		w.wake <- struct{}{}
 	}
-	c.queue = c.queue[n:]
+	if c.queue = c.queue[n:]; len(c.queue) == 0 {
+		delete(conditions, c.p)
+	}
 }

@@ -124,11 +124,6 @@ func forget() {
 			delete(groups, p)
 		}
 	}
-	for p, c := range conditions {
-		if len(c.queue) == 0 {
-			delete(conditions, p)
-		}
-	}
 }
 
 // enter has the lock: the goroutine is there in this part.

@@ -98,19 +98,25 @@ func (x WaitGroupAt) Wait() {
 	}
 	g := current(x.s)
 	begin()
-	w := groupAt(x.w)
-	if w.count > 0 && w.waiting == 0 {
-		w.use(g, wire.Write, x.s)
+	w := groups[unsafe.Pointer(x.w)]
+	if w != nil {
+		if w.count > 0 && w.waiting == 0 {
+			w.use(g, wire.Write, x.s)
+		}
+		w.waiting++
 	}
-	w.waiting++
 	mu.Unlock()
 	x.w.Wait()
 	begin()
-	w.waiting--
+	defer mu.Unlock()
+	if w != nil {
+		w.waiting--
+	} else if w = groups[unsafe.Pointer(x.w)]; w == nil {
+		return // nothing was added
+	}
 	w.returned = true
 	for _, done := range w.dones {
 		makeRoom()
 		g.acquire(done, x.s)
 	}
-	mu.Unlock()
 }

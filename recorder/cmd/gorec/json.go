@@ -132,7 +132,7 @@ func (e *eventWriter) verdict(o *outcome) {
 		}
 	}
 	v := &verdict{
-		Status: o.status, Races: len(o.races), Predicted: len(o.predicted), NotSearched: o.notSearched,
+		Status: o.status, Races: o.raceCount, Predicted: o.predictedCount, NotSearched: o.notSearched,
 		Events: o.summary.Events, Records: o.summary.Records, Cut: o.summary.Cut, Seed: o.seed, Trace: o.trace,
 	}
 	if o.ended != nil {

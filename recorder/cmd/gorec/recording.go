@@ -123,12 +123,14 @@ type outcome struct {
 	races   []race
 	moments map[int]trace.Moment // of the races' accesses, by event
 	stacks  stackTable
-	racing  []*outcome // of a run: its segments with races, predicted ones too
+	racing  []*outcome // of a run: its segments with races at other places than those before, predicted ones too
 	trace   string     // where it is kept
 
 	predicted   []race
 	predictions string // as the judge tells them
 	notSearched int    // so many variables, in other orders
+
+	raceCount, predictedCount int // of a run: those of all its segments
 }
 
 // repeat runs a program until a race is found, as often as is wanted.

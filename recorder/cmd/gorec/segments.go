@@ -171,15 +171,16 @@ func (j *judging) judgeSegment(s *trace.Segments, command []string, options trac
 	if err != nil {
 		return err
 	}
-	if len(o.all()) > 0 {
+	isNew := j.isNew(o)
+	if isNew {
 		if o.moments, err = s.Moments(j.t.copied.Sites, options, o.events()); err != nil {
 			return err
 		}
 		o.stacks = readStacks(j.t.file, j.log+stacksSuffix)
-	}
-	isNew := j.isNew(o)
-	if isNew {
 		o.explain(j.c.out)
+		j.o.racing = append(j.o.racing, o)
+		j.o.races = append(j.o.races, o.races...)
+		j.o.predicted = append(j.o.predicted, o.predicted...)
 	}
 	if isNew || only {
 		o.tellPredicted(j.c.out)
@@ -276,10 +277,9 @@ func (j *judging) add(o *outcome, followed bool) {
 	run.notSearched += o.notSearched
 	if len(o.all()) > 0 {
 		j.racing++
-		run.racing = append(run.racing, o)
-		run.races = append(run.races, o.races...)
-		run.predicted = append(run.predicted, o.predicted...)
 	}
+	run.raceCount += len(o.races)
+	run.predictedCount += len(o.predicted)
 	if run.summary == nil {
 		sum := *o.summary
 		run.summary = &sum
@@ -304,7 +304,7 @@ func (j *judging) tell() {
 		return
 	}
 	if j.predict {
-		fmt.Fprintf(j.c.out, "gorec: of all traces predicted: %d, not searched: %d variables\n", len(j.o.predicted), j.o.notSearched)
+		fmt.Fprintf(j.c.out, "gorec: of all traces predicted: %d, not searched: %d variables\n", j.o.predictedCount, j.o.notSearched)
 	}
 	tell(j.c.out, j.o.summary, j.t.Program)
 	var reasons []string

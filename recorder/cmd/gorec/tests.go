@@ -244,9 +244,9 @@ func (c *testRun) result(w io.Writer, p *instrument.Program, o *outcome, noTests
 	word, more := "ok", ""
 	switch {
 	case o.status == racing:
-		word, more = "RACE", fmt.Sprintf("\traces: %d", len(o.races))
+		word, more = "RACE", fmt.Sprintf("\traces: %d", o.raceCount)
 		if c.predict {
-			more += fmt.Sprintf(", predicted: %d", len(o.predicted))
+			more += fmt.Sprintf(", predicted: %d", o.predictedCount)
 		}
 	case o.status != 0 && o.status != cutOff:
 		word = "FAIL"

@@ -3,6 +3,7 @@ package endtoend
 import (
 	"os"
 	"path/filepath"
+	"regexp"
 	"strings"
 	"testing"
 )
@@ -63,6 +64,18 @@ exit 66
 	}
 	out, errs, status := runTool(t, "run", "-records", "1024", "-gorace", judge, "./rounds")
 	if status != 66 || !strings.Contains(out, "gorec: to see why: ") || !strings.Contains(errs, "gorec: the trace wasn't judged: signal: killed\n") {
+		t.Errorf("status %d\n%s%s", status, out, errs)
+	}
+}
+
+// TestRacesOfSegments: what races in each segment is kept and told of the first one alone, but counts.
+func TestRacesOfSegments(t *testing.T) {
+	t.Parallel()
+	race := "race on total: write by g1 at a.go:1 (event 1), write by g2 at a.go:2 (event 2)"
+	judge := judgeSaying(t, filepath.Join(t.TempDir(), "judge"), race, 66)
+	out, errs, status := runTool(t, "run", "-json", "-records", "1024", "-gorace", judge, "./rounds")
+	m := regexp.MustCompile(`"Races":(\d+)`).FindStringSubmatch(out)
+	if status != 66 || strings.Count(out, `"Action":"race"`) != 1 || m == nil || m[1] == "0" || m[1] == "1" {
 		t.Errorf("status %d\n%s%s", status, out, errs)
 	}
 }

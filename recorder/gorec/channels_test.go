@@ -31,7 +31,9 @@ func TestForgotten(t *testing.T) {
 		_, cancel = WithTimeout(parent, time.Hour, &Site{})
 		cancel()
 		NewTimer(time.NewTimer(time.Hour), &Site{}).Stop()
-		AfterFunc(time.Hour, func() {}, &Site{}).Stop()
+		timer := AfterFunc(time.Hour, func() {}, &Site{})
+		runtime.SetFinalizer(timer, func(*time.Timer) {}) // the program may do so
+		timer.Stop()
 		stopsItself().Stop()
 		ReceiveOK(closedBy(func(c chan int) { close(c) }), &Site{})
 	}

@@ -17,6 +17,9 @@ import (
 // goroutines use take most of that.
 const enough = 3 << 10 // three quarters of a table
 
+// enoughOfOneLog is that where a run has one log, in which no race is missed for the log's end.
+var enoughOfOneLog = 1 << 16
+
 // ages are told apart of what isn't used. One lasts while that part of the limit is met anew.
 const ages = 4
 
@@ -34,6 +37,9 @@ func mostOfShard() int {
 
 // firstLimit is a shard's limit before it is found to be too low.
 func firstLimit() int {
+	if partRecords == 0 {
+		return enoughOfOneLog
+	}
 	if most := mostOfShard(); most < enough {
 		return most
 	}

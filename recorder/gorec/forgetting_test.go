@@ -11,7 +11,11 @@ import (
 func TestForgetting(t *testing.T) { forgetting(t, 1<<18) }
 
 // So it is where a run has one log.
-func TestForgettingOfOneLog(t *testing.T) { forgetting(t, 0) }
+func TestForgettingOfOneLog(t *testing.T) {
+	defer func(n int) { enoughOfOneLog = n }(enoughOfOneLog)
+	enoughOfOneLog = 1 << 10
+	forgetting(t, 0)
+}
 
 func forgetting(t *testing.T, size int) {
 	record(t)

@@ -3,6 +3,7 @@ package gorec
 import (
 	"reflect"
 	"runtime"
+	"time"
 	"unsafe"
 
 	"gorace.local/recorder/wire"
@@ -21,8 +22,9 @@ type channel struct {
 	buffered int // values in the buffer
 	closed   bool
 	foreign  bool
-	timer    bool   // its timer alone sends on it
-	order    uint32 // of a foreign one: what comes before each receive, as a timer's start
+	timer    bool      // its timer alone sends on it
+	set      time.Time // when that was set again, or stopped for good
+	order    uint32    // of a foreign one: what comes before each receive, as a timer's start
 	done     *doneChannel
 	sent     uint64
 	received uint64

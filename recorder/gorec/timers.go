@@ -49,7 +49,20 @@ func setTimer(c <-chan time.Time, s *Site) {
 	if ch == nil {
 		ch = knowTimer(p)
 	}
-	ch.timer, ch.order = true, g.release(s)
+	ch.timer, ch.order, ch.set = true, g.release(s), time.Now()
+}
+
+// stopTimer is for a timer's channel when that is about to be stopped. Since Go 1.23, where its capacity
+// is said to be 0, nothing comes from it behind that.
+func stopTimer(c <-chan time.Time) {
+	if off || c == nil || cap(c) > 0 {
+		return
+	}
+	begin()
+	defer mu.Unlock()
+	if ch := knownChannel(pointerTo(unsafe.Pointer(&c))); ch != nil {
+		ch.set = time.Now()
+	}
 }
 
 // NewTimer is what time.NewTimer answers.
@@ -136,22 +149,22 @@ func (l *later) setAgain(g *G, s *Site) {
 	}
 }
 
-// TimerAt is a time.Timer at a place where it is set again.
+// TimerAt is a time.Timer at a place where it is set again or stopped.
 type TimerAt struct {
 	t *time.Timer
 	s *Site
 }
 
-// TickerAt is a time.Ticker at a place where it is set again.
+// TickerAt is a time.Ticker at a place where it is set again or stopped.
 type TickerAt struct {
 	t *time.Ticker
 	s *Site
 }
 
-// Timer is a time.Timer that is set again at s.
+// Timer is a time.Timer that is set again or stopped at s.
 func Timer(t *time.Timer, s *Site) TimerAt { return TimerAt{t, s} }
 
-// Ticker is a time.Ticker that is set again at s.
+// Ticker is a time.Ticker that is set again or stopped at s.
 func Ticker(t *time.Ticker, s *Site) TickerAt { return TickerAt{t, s} }
 
 // Reset is that of the timer.
@@ -172,4 +185,16 @@ func (x TimerAt) Reset(d time.Duration) bool {
 func (x TickerAt) Reset(d time.Duration) {
 	setTimer(x.t.C, x.s)
 	x.t.Reset(d)
+}
+
+// Stop is that of the timer.
+func (x TimerAt) Stop() bool {
+	stopTimer(x.t.C)
+	return x.t.Stop()
+}
+
+// Stop is that of the ticker.
+func (x TickerAt) Stop() {
+	stopTimer(x.t.C)
+	x.t.Stop()
 }

@@ -174,7 +174,7 @@ func (w *waiter) ticks() <-chan time.Time {
 }
 
 // ticked reports whether what the timer sent does its case. If others did one meanwhile it is given back,
-// or is late where the timer has sent again.
+// or is late where the timer has sent again, was set again or stopped.
 func (w *waiter) ticked(now time.Time) bool {
 	begin()
 	defer mu.Unlock()
@@ -185,15 +185,23 @@ func (w *waiter) ticked(now time.Time) bool {
 		w.g.acquire(w.timer.channel.order, w.s)
 	} else {
 		<-w.g.wake
-		select {
-		case *(*chan time.Time)(unsafe.Pointer(&w.timer.c)) <- now:
-		default:
-		}
+		putBack(w.timer, now)
 	}
 	if w.polls {
 		<-w.g.wake // what lend sent
 	}
 	return !served
+}
+
+// putBack has the lock. What the timer sent before it was set isn't to be found behind that.
+func putBack(r *Taking[time.Time], now time.Time) {
+	if now.Before(r.channel.set) {
+		return
+	}
+	select {
+	case *(*chan time.Time)(unsafe.Pointer(&r.c)) <- now:
+	default:
+	}
 }
 
 // pollNow has w try by itself from now on. It reports whether a channel was lent before, which woke

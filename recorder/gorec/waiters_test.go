@@ -4,6 +4,7 @@ import (
 	"context"
 	"testing"
 	"time"
+	"unsafe"
 )
 
 // waiting has three goroutines that wait on one channel, the second on another one too.
@@ -85,12 +86,32 @@ func TestTimerSends(t *testing.T) {
 	})
 }
 
-// What a timer sent is given back where another case was done meanwhile.
+// What a timer sent is given back where another case was done meanwhile, unless the timer was set
+// again meanwhile.
 func TestGivenBack(t *testing.T) {
 	record(t)
-	timer := time.NewTimer(0)
-	now := <-timer.C
-	tick, other := CaseReceive(timer.C), CaseReceive[int](nil)
+	c := make(chan time.Time, 1)
+	for _, earlier := range []time.Duration{0, time.Nanosecond} {
+		now := time.Now()
+		servedMeanwhile(t, c, now, now.Add(earlier))
+		select {
+		case again := <-c:
+			if !again.Equal(now) || earlier > 0 {
+				t.Errorf("%v, which was sent %v before the timer was set", again, earlier)
+			}
+		default:
+			if earlier == 0 {
+				t.Error("the timer's channel is empty")
+			}
+		}
+	}
+}
+
+// servedMeanwhile has a goroutine take what the timer of c sent, when another case was done.
+func servedMeanwhile(t *testing.T, c chan time.Time, now, set time.Time) {
+	t.Helper()
+	tick, other := CaseReceive((<-chan time.Time)(c)), CaseReceive[int](nil)
+	tick.channel = &channel{foreign: true, timer: true, set: set}
 	other.index = 1
 	g := &G{wake: make(chan struct{}, 2)}
 	w := g.wait(nowhere, []communication{tick, other}, false)
@@ -99,13 +120,20 @@ func TestGivenBack(t *testing.T) {
 	if w.ticked(now) || w.which != 1 {
 		t.Errorf("case %d was done", w.which)
 	}
-	select {
-	case again := <-timer.C:
-		if !again.Equal(now) {
-			t.Errorf("%v in place of %v", again, now)
+}
+
+// A timer is set again or stopped behind what it sent before.
+func TestTimerIsSet(t *testing.T) {
+	record(t)
+	timer, newer := time.NewTimer(time.Hour), make(chan time.Time) // from Go 1.23 a timer's has no capacity
+	TimerChannel(newer, nowhere)
+	before := time.Now()
+	Timer(timer, nowhere).Reset(time.Hour)
+	stopTimer(newer)
+	for _, c := range []<-chan time.Time{timer.C, newer} {
+		if set := knownChannel(pointerTo(unsafe.Pointer(&c))).set; set.Before(before) {
+			t.Errorf("set at %v, behind %v", set, before)
 		}
-	default:
-		t.Error("the timer's channel is empty")
 	}
 }
 

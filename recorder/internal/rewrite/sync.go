@@ -24,8 +24,8 @@ var syncTypes = map[string]struct{ use, methods string }{
 	"sync/atomic.Bool":    {"AtomicBool", "Load Store Swap CompareAndSwap"},
 	"sync/atomic.Value":   {"AtomicValue", "Load Store Swap CompareAndSwap"},
 	"sync/atomic.Pointer": {"AtomicPointer", "Load Store Swap CompareAndSwap"},
-	"time.Timer":          {"Timer", "Reset"},
-	"time.Ticker":         {"Ticker", "Reset"},
+	"time.Timer":          {"Timer", "Reset Stop"},
+	"time.Ticker":         {"Ticker", "Reset Stop"},
 }
 
 // receiverType is the package and name of the type that declares a method.
@@ -82,9 +82,9 @@ func (r *rewriter) mayHoldSync(e *ast.SelectorExpr) bool {
 	if _, isParameter := t.(*types.TypeParam); !ok || isParameter {
 		return false
 	}
-	for _, known := range syncTypes {
+	for name, known := range syncTypes {
 		n := 0
-		for n < iface.NumMethods() && hasWord(known.methods, iface.Method(n).Name()) {
+		for !strings.HasPrefix(name, "time.") && n < iface.NumMethods() && hasWord(known.methods, iface.Method(n).Name()) {
 			n++
 		}
 		if n == iface.NumMethods() {

@@ -139,6 +139,7 @@ func (ch *channel) lend() {
 
 // sleep returns once a case was done: by others, or by trying again from time to time.
 func (w *waiter) sleep(polls bool) int {
+	pause := firstPause
 	if !polls {
 		select {
 		case <-w.g.wake:
@@ -147,7 +148,7 @@ func (w *waiter) sleep(polls bool) int {
 			if w.pollNow() {
 				<-w.g.wake // what lend sent
 			}
-			polls = true
+			polls, pause = true, 0 // it is found now, by a bubble's time too
 		case now := <-w.ticks():
 			if w.ticked(now) {
 				return w.timer.index
@@ -155,7 +156,7 @@ func (w *waiter) sleep(polls bool) int {
 		}
 	}
 	if polls {
-		if i, did := w.poll(); did {
+		if i, did := w.poll(pause); did {
 			return i
 		}
 	}
@@ -213,9 +214,8 @@ func (w *waiter) pollNow() (lent bool) {
 	return lent
 }
 
-// poll tries the cases until one was done; did says that this goroutine did it.
-func (w *waiter) poll() (i int, did bool) {
-	pause := firstPause
+// poll tries the cases until one was done, at first after a pause; did says that this goroutine did it.
+func (w *waiter) poll(pause time.Duration) (i int, did bool) {
 	t := time.NewTimer(pause)
 	defer t.Stop()
 	for {
@@ -247,6 +247,9 @@ const firstPause = 5 * time.Microsecond
 // is then found.
 func nextPause(p time.Duration) time.Duration {
 	const longest = 10 * time.Millisecond
+	if p < firstPause {
+		return firstPause
+	}
 	if p < time.Millisecond {
 		p += p / 4
 	} else {

@@ -207,6 +207,33 @@ var newer = []struct {
 		})
 	})
 `, verdict{races: []string{"racy"}}},
+	{"a bubble's time", 25, "(\n\t\"context\"\n\t\"testing\"\n\t\"testing/synctest\"\n\t\"time\"\n)", `	racy := 0
+	bubble := func(t *testing.T) {
+		c, begun := make(chan int), time.Now()
+		ctx, cancel := context.WithTimeout(context.Background(), 3*time.Second)
+		defer cancel()
+		tick := time.NewTimer(2 * time.Second)
+		go func() {
+			racy++
+			time.Sleep(time.Second)
+			c <- 1
+		}()
+		racy++
+		for i := 0; i < 3; i++ {
+			select {
+			case <-c:
+			case <-tick.C:
+			case <-ctx.Done():
+			}
+		}
+		if waited := time.Since(begun); waited != 3*time.Second {
+			t.Error(waited)
+		}
+	}
+	run := func(t *testing.T) { synctest.Test(t, bubble) }
+	all := func(string, string) (bool, error) { return true, nil }
+	testing.Main(all, []testing.InternalTest{{Name: "bubble", F: run}}, nil, nil)
+`, verdict{races: []string{"racy"}}},
 	{"WaitGroup.Go", 25, `"sync"`, `	var group sync.WaitGroup
 	x, racy := make([]int, 3), 0
 	for i := range x {

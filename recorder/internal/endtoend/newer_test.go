@@ -207,6 +207,17 @@ var newer = []struct {
 		})
 	})
 `, verdict{races: []string{"racy"}}},
+	{"what its version of Go has as a default", 23, "(\n\t\"net/http\"\n\t\"net/http/httptest\"\n\t\"time\"\n)", `	racy, found := 0, ""
+	http.HandleFunc("GET /items/{id}", func(w http.ResponseWriter, r *http.Request) { found = r.PathValue("id") })
+	http.DefaultServeMux.ServeHTTP(httptest.NewRecorder(), httptest.NewRequest("GET", "/items/7", nil))
+	if n := cap(time.NewTimer(time.Hour).C); n != 0 || found != "7" {
+		panic(found)
+	}
+	done := make(chan bool)
+	go func() { racy++; done <- true }()
+	racy++
+	<-done
+`, verdict{races: []string{"racy"}}},
 	{"a bubble's time", 25, "(\n\t\"context\"\n\t\"testing\"\n\t\"testing/synctest\"\n\t\"time\"\n)", `	racy := 0
 	bubble := func(t *testing.T) {
 		c, begun := make(chan int), time.Now()

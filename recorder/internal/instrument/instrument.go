@@ -359,7 +359,8 @@ func buildTags() (string, error) {
 
 // Build builds a program, or one of tests, to a file, beside which the sites are written.
 // -trimpath lets the build cache serve copies in other folders; the sources tell where they
-// were copied from, and the linker where Go stands.
+// were copied from, and the linker where Go stands, and which settings there are: a GOPATH has those of
+// Go 1.20.
 func (p *Program) Build(run func(*exec.Cmd) error, file string, tests bool) error {
 	words := []string{"build"}
 	if tests {
@@ -379,7 +380,7 @@ func (p *Program) Build(run func(*exec.Cmd) error, file string, tests bool) erro
 		return err
 	}
 	words = append(words, p.copy.flags...)
-	words = append(words, "-trimpath", "-ldflags=-X 'runtime.defaultGOROOT="+goroot+"'", "-o", file, p.path)
+	words = append(words, "-trimpath", "-ldflags=-X 'runtime.defaultGOROOT="+goroot+"' -X 'runtime.godebugDefault="+p.GODEBUG+"'", "-o", file, p.path)
 	cmd := exec.Command("go", words...)
 	cmd.Dir = p.copy.Dir
 	cmd.Stdout, cmd.Stderr = os.Stderr, os.Stderr

@@ -26,6 +26,7 @@ type Listed struct {
 	Module            *Module
 	Error             *PackageError
 	DepsErrors        []*PackageError
+	DefaultGODEBUG    string // from Go 1.21
 }
 
 // Module is a package's module.
@@ -51,6 +52,7 @@ type Program struct {
 	Standard        bool            // of the standard library, of which nothing is recorded
 	Broken          string          // why it can't be built, in the words of go test
 	Parts           map[string]bool // the import paths of the packages that it has
+	GODEBUG         string          // the settings that it begins with, by its module's version of Go
 }
 
 // list runs go list, which compiles what the packages need into the build cache. With tolerant
@@ -92,7 +94,7 @@ func mains(all []*Listed) []*Program {
 	var programs []*Program
 	for _, l := range all {
 		if !l.DepOnly && l.Name == "main" {
-			programs = append(programs, &Program{ImportPath: l.ImportPath, Dir: l.Dir, Standard: l.Standard, Parts: parts(l)})
+			programs = append(programs, &Program{ImportPath: l.ImportPath, Dir: l.Dir, Standard: l.Standard, Parts: parts(l), GODEBUG: l.DefaultGODEBUG})
 		}
 	}
 	return programs
@@ -137,7 +139,7 @@ func tests(all []*Listed) []*Program {
 		case of.Export == "" && (p.HasTests || !p.Standard): // as unsafe
 			p.Broken = "build failed"
 		case p.HasTests:
-			p.Parts = parts(of)
+			p.Parts, p.GODEBUG = parts(of), of.DefaultGODEBUG
 		}
 	}
 	sort.Slice(programs, func(i, j int) bool { return programs[i].ImportPath < programs[j].ImportPath })

@@ -23,7 +23,7 @@ type channel struct {
 	closed   bool
 	foreign  bool
 	timer    bool      // its timer alone sends on it
-	set      time.Time // when that was set again, or stopped for good
+	set      time.Time // when that was last set again or stopped
 	order    uint32    // of a foreign one: what comes before each receive, as a timer's start
 	done     *doneChannel
 	sent     uint64

@@ -17,7 +17,7 @@ import (
 // goroutines use take most of that.
 const enough = 3 << 10 // three quarters of a table
 
-// enoughOfOneLog is that where a run has one log, in which no race is missed for the log's end.
+// enoughOfOneLog is enough where a run has one log: so many that a copy of a very large array fits.
 var enoughOfOneLog = 1 << 16
 
 // ages are told apart of what isn't used. One lasts while that part of the limit is met anew.

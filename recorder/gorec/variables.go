@@ -62,7 +62,8 @@ func Read[T any](p *T, s *Site) T {
 	return readBy(p, g.at(s))
 }
 
-// ReadHere is Read by g, which Here answered.
+// ReadHere is Read by g, which Here answered. What the two share isn't a function of its own, since each
+// loop would wait for one more call.
 func ReadHere[T any](g *G, p *T, s *Site) T {
 	_ = *p
 	if alone() {

@@ -15,6 +15,7 @@ import (
 	"fmt"
 	"io"
 	"os"
+	"syscall"
 
 	"gorace.local/recorder/internal/process"
 )
@@ -29,6 +30,7 @@ const (
 	cutOff   = 20
 	failed   = 21
 	racing   = 66
+	unread   = 128 + int(syscall.SIGPIPE) // as shells have it
 )
 
 // A command is one of gorec's. It answers the status to end with, or an error, which is told
@@ -90,9 +92,13 @@ func dispatch(args []string) (int, error) {
 		}
 		args = append(args[:1:1], flags.Args()...)
 	}
-	status, err := do(process.New(), args[1:])
-	if errors.Is(err, flag.ErrHelp) {
+	keeper := process.New()
+	status, err := do(keeper, args[1:])
+	switch {
+	case errors.Is(err, flag.ErrHelp):
 		return 0, help(args[:1])
+	case keeper.Unread():
+		return unread, nil
 	}
 	return status, err
 }

@@ -3,6 +3,7 @@ package endtoend
 import (
 	"bufio"
 	"fmt"
+	"io"
 	"os"
 	"os/exec"
 	"path/filepath"
@@ -13,9 +14,15 @@ import (
 	"time"
 )
 
+// output is what a gorec writes.
+type output struct {
+	*bufio.Reader
+	io.Closer
+}
+
 // waiting starts gorec over a program that tells its process and waits; the folder is that of
 // temporary files.
-func waiting(t *testing.T, errs *strings.Builder) (cmd *exec.Cmd, out *bufio.Reader, pid int, folder string) {
+func waiting(t *testing.T, errs *strings.Builder) (cmd *exec.Cmd, out output, pid int, folder string) {
 	t.Helper()
 	folder = t.TempDir()
 	cmd = exec.Command(gorec, "run", "-gorace", stub(t), "./waits", "tell")
@@ -30,7 +37,7 @@ func waiting(t *testing.T, errs *strings.Builder) (cmd *exec.Cmd, out *bufio.Rea
 	if err := cmd.Start(); err != nil {
 		t.Fatal(err)
 	}
-	out = bufio.NewReader(pipe)
+	out = output{bufio.NewReader(pipe), pipe}
 	line, err := out.ReadString('\n')
 	if err == nil {
 		pid, err = strconv.Atoi(strings.TrimSpace(line))
@@ -98,5 +105,20 @@ func TestEnded(t *testing.T) {
 		if left, _ := filepath.Glob(folder + "/*"); len(left) > 0 {
 			t.Errorf("%v: left are %v", s, left)
 		}
+	}
+}
+
+// TestUnread: a gorec whose output nobody reads any longer leaves no file.
+func TestUnread(t *testing.T) {
+	var errs strings.Builder
+	cmd, out, pid, folder := waiting(t, &errs)
+	out.Close()
+	syscall.Kill(pid, syscall.SIGTERM)
+	cmd.Wait()
+	if status := cmd.ProcessState.ExitCode(); status != 128+int(syscall.SIGPIPE) || runs(pid) {
+		t.Errorf("status %d\n%s", status, errs.String())
+	}
+	if left, _ := filepath.Glob(folder + "/*"); len(left) > 0 {
+		t.Errorf("left are %v", left)
 	}
 }

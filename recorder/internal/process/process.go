@@ -19,13 +19,14 @@ type Keeper struct {
 
 	mu      sync.Mutex
 	running map[*os.Process]bool
-	count   int // signals so far
+	count   int  // signals so far
+	unread  bool // nobody reads what gorec writes
 }
 
 // New takes the signals by which users and machines end programs.
 func New() *Keeper {
 	k := &Keeper{foreground: inForeground(), signals: make(chan os.Signal, 4), running: map[*os.Process]bool{}}
-	signal.Notify(k.signals, os.Interrupt, syscall.SIGTERM, syscall.SIGHUP, syscall.SIGQUIT)
+	signal.Notify(k.signals, os.Interrupt, syscall.SIGTERM, syscall.SIGHUP, syscall.SIGQUIT, syscall.SIGPIPE)
 	go func() {
 		for s := range k.signals {
 			k.handOn(s.(syscall.Signal))
@@ -41,10 +42,24 @@ func (k *Keeper) Interrupted() bool {
 	return k.count > 0
 }
 
-// handOn gives the running programs a signal, unless the terminal has. The third one kills.
+// Unread reports whether nobody reads what gorec writes, as in gorec test | head.
+func (k *Keeper) Unread() bool {
+	k.mu.Lock()
+	defer k.mu.Unlock()
+	return k.unread
+}
+
+// handOn gives the running programs a signal, unless the terminal has. The third one kills. Where
+// nobody reads on, each write brings a signal; the first one ends the programs.
 func (k *Keeper) handOn(s syscall.Signal) {
 	k.mu.Lock()
 	defer k.mu.Unlock()
+	if s == syscall.SIGPIPE {
+		if k.unread {
+			return
+		}
+		k.unread, s = true, syscall.SIGTERM
+	}
 	k.count++
 	if k.count == 2 && len(k.running) > 0 {
 		fmt.Fprintln(os.Stderr, "gorec: the program goes on; one more signal kills it")

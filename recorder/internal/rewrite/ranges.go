@@ -71,6 +71,14 @@ func (l *loop) variable(e ast.Expr) (name string, shared bool) {
 	return identifier(e), l.isRecorded(e) && !l.facts.perIteration
 }
 
+// length is Go's len in the loop's head, where its variables may have that name.
+func (l *loop) length() string {
+	if l.sharedKey && l.key == "len" || l.sharedValue && l.value == "len" {
+		return "gorec.Len"
+	}
+	return l.predeclared("len", l.s)
+}
+
 // plain is a loop over an array, a string or a number, or over a slice's indexes.
 func (l *loop) plain() {
 	if isArray(l.typeOf(l.s.X)) && l.value == "" {
@@ -106,7 +114,7 @@ func (l *loop) overString() {
 func (l *loop) indexed(begin, key, value string) {
 	a, i := l.newName("a"), l.newName("i")
 	l.insert(l.s.X.End(), " "+a+", "+i+", "+blankUnless(l.sharedKey, l.key)+", "+blankUnless(l.sharedValue, l.value)+
-		" := "+begin+"); "+i+" < "+l.predeclared("len", l.s)+"("+a+"); "+i+"++")
+		" := "+begin+"); "+i+" < "+l.length()+"("+a+"); "+i+"++")
 	element := a + "[" + i + "]"
 	from := i
 	if key != "" {
@@ -234,7 +242,7 @@ func (l *loop) overSlice() {
 		head, end = head+"(", ")[:]"
 	}
 	l.head(head)
-	l.insert(l.s.X.End(), end+"); "+i+" < "+l.predeclared("len", l.s)+"("+a+"); "+i+"++")
+	l.insert(l.s.X.End(), end+"); "+i+" < "+l.length()+"("+a+"); "+i+"++")
 	element := ""
 	if l.value != "" {
 		element = l.access("Read", l.s.Body) + "&" + a + "[" + i + "], " + l.siteOfElement() + ")"

@@ -1,9 +1,13 @@
 package instrument
 
 import (
+	"os"
 	"os/exec"
+	"path/filepath"
 	"strings"
 	"testing"
+
+	"gorace.local/recorder/internal/load"
 )
 
 // TestBuildError: a build that a signal ended is no mistake of gorec.
@@ -12,6 +16,28 @@ func TestBuildError(t *testing.T) {
 		got := buildError(exec.Command("sh", "-c", script).Run()).Error()
 		if strings.Contains(got, "mistake") != blames {
 			t.Errorf("after %q it says %q", script, got)
+		}
+	}
+}
+
+// TestBuildGo: a copy is built by the Go that its packages were listed with, which the PATH's may have
+// taken because a go.mod asks for it.
+func TestBuildGo(t *testing.T) {
+	path, taken := t.TempDir(), t.TempDir()
+	script := []byte("#!/bin/sh\n[ $2 != GOROOT ] || echo " + taken + "\n")
+	t.Setenv("PATH", path)
+	for _, want := range []string{filepath.Join(path, "go"), filepath.Join(taken, "bin", "go")} {
+		err := os.MkdirAll(filepath.Dir(want), 0o755)
+		if err == nil {
+			err = os.WriteFile(want, script, 0o755)
+		}
+		got := ""
+		if err == nil {
+			p := Program{Program: &load.Program{}, copy: &Copy{Dir: t.TempDir()}}
+			err = p.Build(func(cmd *exec.Cmd) error { got = cmd.Path; return nil }, filepath.Join(path, "program"), false)
+		}
+		if err != nil || got != want {
+			t.Errorf("by %s, not %s: %v", got, want, err)
 		}
 	}
 }

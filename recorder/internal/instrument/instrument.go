@@ -341,6 +341,15 @@ func goEnv(name string) (string, error) {
 	return strings.TrimSpace(string(value)), nil
 }
 
+// goCommand is the command go of a GOROOT. A go.mod may have asked for a newer one than the PATH's,
+// which a GOPATH doesn't do.
+func goCommand(goroot string) string {
+	if file, err := exec.LookPath(filepath.Join(goroot, "bin", "go")); err == nil {
+		return file
+	}
+	return "go"
+}
+
 // buildTags is the -tags of GOFLAGS, with which the packages were listed; its other flags are
 // those of modules. What go env -w sets holds only where GOFLAGS is empty.
 func buildTags() (string, error) {
@@ -381,7 +390,7 @@ func (p *Program) Build(run func(*exec.Cmd) error, file string, tests bool) erro
 	}
 	words = append(words, p.copy.flags...)
 	words = append(words, "-trimpath", "-ldflags=-X 'runtime.defaultGOROOT="+goroot+"' -X 'runtime.godebugDefault="+p.GODEBUG+"'", "-o", file, p.path)
-	cmd := exec.Command("go", words...)
+	cmd := exec.Command(goCommand(goroot), words...)
 	cmd.Dir = p.copy.Dir
 	cmd.Stdout, cmd.Stderr = os.Stderr, os.Stderr
 	cmd.Env = append(os.Environ(), "GOFLAGS=-trimpath"+tags, "GO111MODULE=off", "GOWORK=off", "GOPATH="+p.copy.Dir)

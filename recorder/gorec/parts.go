@@ -71,7 +71,7 @@ func nextPart() {
 	}
 	atomic.StoreUint32(&ended.Next, uint32(why))
 	previous = old
-	syscall.Madvise(old, syscall.MADV_DONTNEED)
+	wire.GiveBack(old)
 	atomic.StoreUint32(&steps, 0)
 	atomic.AddUint32(&part, 1)
 	atomic.AddUint32(&news, 1)

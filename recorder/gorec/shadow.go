@@ -31,7 +31,7 @@ var (
 // bar has each processor that runs this program finish its writes. Who reads without a lock, which
 // happens often, needs no barrier then; all that it costs falls to who begins another part.
 func bar(command uintptr) bool {
-	const membarrier = 324 // on x86-64, as all that has a shadow
+	const membarrier = 324 // on Linux and x86-64, as all that has a shadow
 	_, _, err := syscall.RawSyscall(membarrier, command, 0, 0)
 	return err == 0
 }
@@ -45,12 +45,12 @@ const (
 // openShadow reserves the shadow. Where the system doesn't allow it reads take the locks.
 func openShadow() {
 	const noReserve = syscall.MAP_ANON | syscall.MAP_PRIVATE | syscall.MAP_NORESERVE
-	if !writesInOrder {
+	if !hasShadow {
 		return
 	}
 	b, err := syscall.Mmap(-1, 0, shadowSize, syscall.PROT_READ|syscall.PROT_WRITE, noReserve)
 	if err == nil {
-		syscall.Madvise(b, syscall.MADV_NOHUGEPAGE)
+		keepSmall(b)
 		shadow, shadowEnds = unsafe.Pointer(&b[0]), shadowSize
 		onHeap = new(user)
 		heapBegin = uintptr(unsafe.Pointer(onHeap)) &^ (arena - 1) // little was made before, so this is the first stretch
@@ -61,7 +61,7 @@ func openShadow() {
 // clearShadow has all locks.
 func clearShadow() {
 	if shadow != nil {
-		syscall.Madvise(unsafe.Slice((*byte)(shadow), shadowSize), syscall.MADV_DONTNEED)
+		setZero(unsafe.Slice((*byte)(shadow), shadowSize))
 	}
 }
 

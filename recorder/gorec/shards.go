@@ -274,7 +274,7 @@ func (t table) free() {
 // outside is memory of the system's, in which all is zero. It is there at once, since each of its pages
 // is used soon, and to ask for them one by one takes longer. Where there is none it is Go's.
 func outside[T any](n int) []T {
-	b, err := syscall.Mmap(-1, 0, n*int(unsafe.Sizeof(*new(T))), syscall.PROT_READ|syscall.PROT_WRITE, syscall.MAP_ANON|syscall.MAP_PRIVATE|syscall.MAP_POPULATE)
+	b, err := syscall.Mmap(-1, 0, n*int(unsafe.Sizeof(*new(T))), syscall.PROT_READ|syscall.PROT_WRITE, syscall.MAP_ANON|syscall.MAP_PRIVATE|populated)
 	if err != nil {
 		return make([]T, n)
 	}

@@ -134,7 +134,7 @@ const given = 1 << 20
 // has a window there, and writes, gets it again.
 func giveBack(from, to uint32) {
 	if now := int(to) * wire.Size / given; now > int(from)*wire.Size/given && now >= 2 {
-		syscall.Madvise(mapped[(now-2)*given:(now-1)*given], syscall.MADV_DONTNEED)
+		wire.GiveBack(mapped[(now-2)*given : (now-1)*given])
 	}
 }
 
@@ -149,17 +149,6 @@ func isFull(count uint32) bool {
 
 // errDisk is why there is no other log, or none at all.
 var errDisk = errors.New("no space left on the disk")
-
-// populate is an advice of Linux, MADV_POPULATE_WRITE. Where it isn't known, as before Linux 5.14, a
-// full disk ends the program.
-const populate = 23
-
-// hasDisk has the system find room on the disk for a stretch of a mapped file, and reports whether
-// there is. Without room a write would be a fault. Records that are in no file, as in tests, have room.
-func hasDisk(file []byte, from, to int) bool {
-	from -= from % syscall.Getpagesize()
-	return file == nil || syscall.Madvise(file[from:to], populate) != syscall.EFAULT
-}
 
 // seal ends the recording; its mark has the last record.
 func seal(why wire.FullKind) {

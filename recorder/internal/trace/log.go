@@ -136,10 +136,10 @@ func (l *Log) room(n int) []wire.Record {
 
 // giveBack has the system take the memory of records, which are in the file.
 func (l *Log) giveBack(records []wire.Record) {
-	const page = 1 << 12
+	page := syscall.Getpagesize()
 	begin := int(uintptr(unsafe.Pointer(&records[0])) - uintptr(unsafe.Pointer(&l.mapped[0])))
 	if from, to := begin/page*page, (begin+len(records)*wire.Size)/page*page; from < to {
-		syscall.Madvise(l.mapped[from:to], syscall.MADV_DONTNEED)
+		wire.GiveBack(l.mapped[from:to])
 	}
 }
 

@@ -245,6 +245,34 @@ var newer = []struct {
 	all := func(string, string) (bool, error) { return true, nil }
 	testing.Main(all, []testing.InternalTest{{Name: "bubble", F: run}}, nil, nil)
 `, verdict{races: []string{"racy"}}},
+	{"clear of a type parameter's value", 21, "\"fmt\"\n\nfunc empty[T []int | map[int]int](t T) { clear(t) }", `	slice, m := []int{1}, map[int]int{1: 1}
+	empty(slice)
+	empty(m)
+	if got := fmt.Sprint(slice, m); got != "[0] map[]" {
+		panic(got)
+	}
+`, verdict{}},
+	{"new of a value", 26, `"sync"`, `	var mu sync.Mutex
+	x, racy, c := 0, 0, make(chan int)
+	locked := func() int {
+		mu.Lock()
+		defer mu.Unlock()
+		x++
+		return x
+	}
+	go func() {
+		n := *new(locked())
+		racy = n
+		c <- n
+	}()
+	last := *new(locked()) + *new(<-c)
+	go func() { racy = last; c <- 0 }()
+	seen := *new(racy)
+	<-c
+	if last != 3 || seen < 0 {
+		panic(last)
+	}
+`, verdict{races: []string{"racy"}}},
 	{"WaitGroup.Go", 25, `"sync"`, `	var group sync.WaitGroup
 	x, racy := make([]int, 3), 0
 	for i := range x {

@@ -42,6 +42,23 @@ func TestBuildGo(t *testing.T) {
 	}
 }
 
+// TestPathTo: a package that a test imports may have a name as tests have.
+func TestPathTo(t *testing.T) {
+	for _, c := range []struct{ path, name, forTest, want string }{
+		{"a", "a", "a", "a"},
+		{"a_test", "a_test", "a", "a"},
+		{"a/b_test", "b_test", "a", "a/b_test"},
+		{"a/b_test_test", "b_test_test", "a/b_test", "a/b_test"},
+		{"a/b_test", "b_test", "", "a/b_test"},
+		{commandLine, "main", "", "files"},
+	} {
+		p := &load.Package{Listed: &load.Listed{ImportPath: c.path, Name: c.name, ForTest: c.forTest}}
+		if got := (&tree{files: "files"}).pathTo(p); got != c.want {
+			t.Errorf("%+v: %s", c, got)
+		}
+	}
+}
+
 func TestEarlyNote(t *testing.T) {
 	for _, c := range []struct {
 		places []string

@@ -151,16 +151,20 @@ func pathOf(packages []*load.Package, dir string) string {
 	return is
 }
 
+// pathTo is the folder of a package. Tests of a package of their own stand beside what they test.
+func (t *tree) pathTo(p *load.Package) string {
+	switch {
+	case p.ForTest != "" && p.ImportPath == p.ForTest+"_test":
+		return p.ForTest
+	case p.ImportPath == commandLine:
+		return t.files
+	}
+	return p.ImportPath
+}
+
 // add writes one package.
 func (t *tree) add(p *load.Package) error {
-	path, sitesFile := p.ImportPath, "gorec_sites.go"
-	if p.ForTest != "" && strings.HasSuffix(p.Name, "_test") {
-		path = strings.TrimSuffix(path, "_test")
-		sitesFile = "gorec_sites_test.go"
-	}
-	if path == commandLine {
-		path = t.files
-	}
+	path := t.pathTo(p)
 	to := filepath.Join(t.Dir, "src", filepath.FromSlash(path))
 	if err := copyFiles(p, to); err != nil {
 		return err
@@ -185,7 +189,7 @@ func (t *tree) add(p *load.Package) error {
 			return err
 		}
 	}
-	return os.WriteFile(filepath.Join(to, sitesFile), []byte(result.Sites), 0o644)
+	return nil
 }
 
 // relativeLine is a line directive of a source that a tool made of another file beside it.
@@ -264,6 +268,7 @@ func toldLine(text, file string, end int) string {
 // copyFiles copies what a package is made of but for its Go files, which follow.
 func copyFiles(p *load.Package, to string) error {
 	names := append(append(append([]string{}, p.EmbedFiles...), p.SFiles...), p.HFiles...)
+	own := len(names)
 	if !p.Recorded() {
 		for _, l := range [][]string{p.GoFiles, p.CgoFiles, p.CFiles, p.CXXFiles, p.SysoFiles} {
 			names = append(names, l...)
@@ -272,12 +277,12 @@ func copyFiles(p *load.Package, to string) error {
 	if err := os.MkdirAll(to, 0o755); err != nil {
 		return err
 	}
-	for _, name := range names {
+	for i, name := range names {
 		b, err := os.ReadFile(filepath.Join(p.Dir, name))
 		if err != nil {
 			return err
 		}
-		if filepath.Ext(name) == ".go" && filepath.Dir(name) == "." {
+		if i >= own && filepath.Ext(name) == ".go" {
 			file := filepath.Join(p.Dir, name)
 			var text string
 			name, text = copyOf(p, name, string(b))

@@ -91,7 +91,7 @@ func (r *rewriter) assignOne(s *ast.AssignStmt) {
 		r.together(x.Index, s.Rhs[0])
 		r.mapping(x, s, "Set(", s.Rhs[0])
 		r.value(x.Index)
-		r.replace(x.Rbrack, x.Rbrack+1, ",")
+		r.replace(x.Rbrack, x.Rbrack+1, strings.TrimSpace(r.commaAfter(x.Index, x.Rbrack)))
 		r.replaceToken(s, "")
 		r.value(s.Rhs[0])
 		r.insert(s.End(), ")")

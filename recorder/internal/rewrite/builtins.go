@@ -23,6 +23,9 @@ func (r *rewriter) builtin(e *ast.CallExpr) {
 	case "make":
 		r.makeCall(e)
 	case "new":
+		if !r.info.Types[e.Args[0]].IsType() { // from Go 1.26
+			r.values(e.Args)
+		}
 	case "delete":
 		r.deleteCall(e)
 	case "len":
@@ -32,14 +35,7 @@ func (r *rewriter) builtin(e *ast.CallExpr) {
 	case "copy":
 		r.copyCall(e)
 	case "clear":
-		if r.isMap(e.Args[0]) || r.isLoose(e.Args[0]) {
-			r.looseMap("WriteMap", e.Args[0])
-		} else {
-			s := r.site(e, r.name(e.Args[0])+"_elem")
-			r.renameCall(e, "gorec.Clear(")
-			r.values(e.Args)
-			r.insert(e.Rparen, r.comma(e)+s)
-		}
+		r.clearCall(e)
 	default:
 		r.values(e.Args)
 	}
@@ -79,6 +75,23 @@ func (r *rewriter) deleteCall(e *ast.CallExpr) {
 	r.insert(m.End(), ", "+s+").Delete(")
 	r.joinArguments(m, key)
 	r.value(key)
+}
+
+func (r *rewriter) clearCall(e *ast.CallExpr) {
+	a := e.Args[0]
+	if r.isMap(a) || r.isLoose(a) {
+		r.looseMap("WriteMap", a)
+		return
+	}
+	if _, isSlice := core(r.typeOf(a)).(*types.Slice); !isSlice { // of a type parameter that may be either
+		r.result.Missed = append(r.result.Missed, "clear of a type parameter's value")
+		r.values(e.Args)
+		return
+	}
+	s := r.site(e, r.name(a)+"_elem")
+	r.renameCall(e, "gorec.Clear(")
+	r.values(e.Args)
+	r.insert(e.Rparen, r.comma(e)+s)
 }
 
 func (r *rewriter) lenCall(e *ast.CallExpr) {

@@ -36,8 +36,13 @@ func (r *rewriter) comma(e *ast.CallExpr) string {
 	if len(e.Args) == 0 {
 		return ""
 	}
-	// Between the last argument and the parenthesis stand at most a comma and comments.
-	between := r.src[e.Args[len(e.Args)-1].End()-r.start : e.Rparen-r.start]
+	return r.commaAfter(e.Args[len(e.Args)-1], e.Rparen)
+}
+
+// commaAfter is a comma, unless the source has one between e and the bracket behind it, where at
+// most that and comments stand.
+func (r *rewriter) commaAfter(e ast.Expr, bracket token.Pos) string {
+	between := r.src[e.End()-r.start : bracket-r.start]
 	var s scanner.Scanner
 	s.Init(token.NewFileSet().AddFile("", -1, len(between)), between, nil, 0)
 	for _, t, _ := s.Scan(); t != token.EOF; _, t, _ = s.Scan() {
@@ -142,6 +147,9 @@ func (r *rewriter) conversion(e *ast.CallExpr, t types.Type) {
 func (r *rewriter) libraryCall(e *ast.CallExpr, sel *ast.SelectorExpr, f *types.Func) bool {
 	full := f.FullName()
 	switch {
+	case r.tupleOf(e.Args) > 0 && apartCalls[full]:
+		r.refuse(e, full+" of what one call answers", "assign that to variables first")
+		r.arguments(e, f)
 	case f.Pkg().Path() == "sync/atomic" && !hasReceiver(f) && len(e.Args) > 0:
 		r.atomicFunction(sel, f, r.name(e.Args[0]))
 		r.values(e.Args)
@@ -188,6 +196,15 @@ func (r *rewriter) libraryCall(e *ast.CallExpr, sel *ast.SelectorExpr, f *types.
 		return r.tabledCall(e, sel, f)
 	}
 	return true
+}
+
+// apartCalls are functions whose arguments are changed one by one.
+var apartCalls = map[string]bool{
+	"context.WithTimeout":  true,
+	"context.WithDeadline": true,
+	"runtime.SetFinalizer": true,
+	"(*testing.T).Run":     true,
+	"(*testing.B).Run":     true,
 }
 
 // contextCalls are functions of package context since Go 1.20, and what goes round them.

@@ -53,6 +53,7 @@ func pairs() (int, string) { return 0, "" }
 func index() int { return 0 }
 func value() int { return 0 }
 func key() string { return "" }
+func deadline() (context.Context, time.Time) { return nil, time.Time{} }
 
 `
 

@@ -24,8 +24,7 @@ import (
 
 // Result is a package with the recorder's calls.
 type Result struct {
-	Files   []string // in the order of the package's files
-	Sites   string   // one more file: the package's sites, and the function main
+	Files   []string // in the order of the package's files; the first has the sites, and the function main
 	Refused []string // what can't be recorded, each with its place
 	Missed  []string // calls whose accesses aren't recorded
 	Early   []string // places of uses that are recorded before a call that is a part of them
@@ -68,29 +67,52 @@ type shared struct {
 // the packages that are rewritten.
 func Package(p *load.Package, base string, own map[string]bool, table *sites.Table) Result {
 	s := &shared{p: p, base: base, info: p.Info, facts: factsOf(p), own: own, table: table}
+	var files []*rewriter
 	for i, f := range p.Files {
 		r := &rewriter{shared: s, file: f, keep: map[string]bool{}, behind: map[ast.Expr]string{}, pointers: map[ast.Node]string{},
 			late: map[ast.Expr]bool{}, after: map[ast.Expr][]ast.Expr{}, imports: map[string]string{}}
 		r.src = p.Sources[i]
 		r.start = p.Fset.File(f.Pos()).Pos(0)
-		s.result.Files = append(s.result.Files, r.rewriteFile())
+		r.rewriteFile()
+		files = append(files, r)
 	}
 	s.refuseOwnName()
-	s.result.Sites = s.sitesFile()
+	for i, r := range files {
+		if i == 0 {
+			r.insert(behindImports(r.file), s.sites())
+		}
+		s.result.Files = append(s.result.Files, r.text(r.start, r.end(), r.edits))
+	}
 	return s.result
 }
 
-func (s *shared) sitesFile() string {
-	text := "package " + s.p.Name + "\n\nimport \"gorace.local/recorder/gorec\"\n\nvar gorec_s = [...]gorec.Site{" +
-		strings.Join(s.local, ", ") + "}\n"
+// sites declares the package's sites, and the function main. They stand before all else that the
+// package declares: what depends on a variable that is declared behind it is initialized after it,
+// and so behind others too.
+func (s *shared) sites() string {
+	text := "; var gorec_s = [...]gorec.Site{" + strings.Join(s.local, ", ") + "}"
 	if s.mainSite != "" {
-		text += "\nfunc main() { gorec.Main(" + s.mainSite + ", gorec_main) }\n"
+		text += "; func main() { gorec.Main(" + s.mainSite + ", gorec_main) }"
 	}
 	return text
 }
 
-func (r *rewriter) rewriteFile() string {
-	end := r.p.Fset.File(r.file.Pos()).Pos(len(r.src))
+// behindImports is where a file's other declarations may begin.
+func behindImports(f *ast.File) token.Pos {
+	at := f.Name.End()
+	for _, d := range f.Decls {
+		if g, ok := d.(*ast.GenDecl); ok && g.Tok == token.IMPORT {
+			at = g.End()
+		}
+	}
+	return at
+}
+
+// end is that of the file.
+func (r *rewriter) end() token.Pos { return r.p.Fset.File(r.file.Pos()).Pos(len(r.src)) }
+
+func (r *rewriter) rewriteFile() {
+	end := r.end()
 	for _, d := range r.file.Decls {
 		switch d := d.(type) {
 		case *ast.GenDecl:
@@ -111,7 +133,6 @@ func (r *rewriter) rewriteFile() string {
 	for _, k := range keep {
 		r.insert(end, "\nvar _ = "+k+"\n")
 	}
-	return r.text(r.start, end, r.edits)
 }
 
 func (r *rewriter) function(d *ast.FuncDecl) {

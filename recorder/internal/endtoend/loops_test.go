@@ -46,12 +46,18 @@ func main() {
 }
 `
 
-// TestLoopVariables: loops have variables of the whole loop or of each iteration, as the
-// module's go line and the version of Go say.
+// TestLoopVariables: loops have variables of the whole loop or of each iteration, as a file's
+// constraint, the module's go line and the version of Go say.
 func TestLoopVariables(t *testing.T) {
-	for _, line := range []string{"1.19", "1.22"} {
+	for line, constraint := range map[string]string{
+		"1.19": "linux", "1.22": "linux", "1.20": "go1.22", "1.23": "linux && go1.21", "1.24": "go1.22", "1.21": "go1.20",
+	} {
 		dir := t.TempDir()
-		for name, text := range map[string]string{"main.go": loops, "go.mod": "module example.com/loops\n\ngo " + line + "\n"} {
+		for name, text := range map[string]string{
+			"main.go":  strings.Replace(loops, "main() {", "main() {\n\tdefer other()", 1),
+			"other.go": "//go:build " + constraint + "\n\n" + strings.Replace(loops, "main() {", "other() {", 1),
+			"go.mod":   "module example.com/loops\n\ngo " + line + "\n",
+		} {
 			if err := os.WriteFile(filepath.Join(dir, name), []byte(text), 0o644); err != nil {
 				t.Fatal(err)
 			}
@@ -60,7 +66,7 @@ func TestLoopVariables(t *testing.T) {
 		plain.Dir = dir
 		want, err := plain.Output()
 		if err != nil {
-			t.Logf("go line %s: %v", line, err) // newer than Go is
+			t.Logf("go line %s, %s: %v", line, constraint, err) // newer than Go is
 			continue
 		}
 		run(t, dir, gorec, "build", "-o", "recorded", ".")
@@ -69,7 +75,7 @@ func TestLoopVariables(t *testing.T) {
 		recorded.Env = append(os.Environ(), "GOREC_LOG="+filepath.Join(dir, "log"))
 		got, err := recorded.Output()
 		if err != nil || string(got) != string(want) {
-			t.Errorf("go line %s: %v\n%sbut plain\n%s", line, err, got, want)
+			t.Errorf("go line %s, %s: %v\n%sbut plain\n%s", line, constraint, err, got, want)
 		}
 	}
 }

@@ -30,8 +30,8 @@ type Copy struct {
 	Sites    sites.Table
 	Notes    []string // what is recorded in part
 
-	oldLoops []string // packages whose loops have one variable each, with a newer Go
-	flags    []string // of the command go, with which the packages were listed
+	languages []string // for the compiler, of packages that are in an older language than the command go's
+	flags     []string // of the command go, with which the packages were listed
 }
 
 // Program is one that can be built of a copy.
@@ -176,15 +176,22 @@ func (t *tree) add(p *load.Package) error {
 		t.Notes = append(t.Notes, "package "+p.ImportPath+" has cgo and isn't recorded")
 		return nil
 	}
-	if p.NewToolchain() && !p.IterationVariables() {
-		t.oldLoops = append(t.oldLoops, path)
+	switch {
+	case p.OldLoops():
+		// Where a file has a line directive the compiler takes its loops for new ones, unless its search for
+		// them is told to find none.
+		t.languages = append(t.languages, "-gcflags="+path+"=-lang=go1.21 -d=loopvarhash=qn")
+	case p.OldLanguage():
+		t.languages = append(t.languages, "-gcflags="+path+"=-lang=go1.21")
 	}
 	result := rewrite.Package(p, t.base, t.own, t.table)
 	t.results[p.ImportPath] = append(t.results[p.ImportPath], result)
 	t.early = append(t.early, result.Early...)
 	for i, text := range result.Files {
 		name, text := copyOf(p, filepath.Base(p.GoFiles[i]), text)
-		text = placed(text, p.Fset.File(p.Files[i].Pos()).Name(), false)
+		if !result.Placeless[i] {
+			text = placed(text, p.Fset.File(p.Files[i].Pos()).Name(), false)
+		}
 		if err := os.WriteFile(filepath.Join(to, name), []byte(text), 0o644); err != nil {
 			return err
 		}
@@ -380,11 +387,6 @@ func (p *Program) Build(run func(*exec.Cmd) error, file string, tests bool) erro
 	if tests {
 		words = []string{"test", "-vet=off", "-c"}
 	}
-	// A GOPATH has no go lines; and where a file has a line directive the compiler takes its loops
-	// for new ones, unless its search for them is told to find none.
-	for _, path := range p.copy.oldLoops {
-		words = append(words, "-gcflags="+path+"=-lang=go1.21 -d=loopvarhash=qn")
-	}
 	tags, err := buildTags()
 	if err != nil {
 		return err
@@ -393,6 +395,7 @@ func (p *Program) Build(run func(*exec.Cmd) error, file string, tests bool) erro
 	if err != nil {
 		return err
 	}
+	words = append(words, p.copy.languages...) // a GOPATH has no go lines
 	words = append(words, p.copy.flags...)
 	words = append(words, "-trimpath", "-ldflags=-X 'runtime.defaultGOROOT="+goroot+"' -X 'runtime.godebugDefault="+p.GODEBUG+"'", "-o", file, p.path)
 	cmd := exec.Command(goCommand(goroot), words...)

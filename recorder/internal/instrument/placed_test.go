@@ -53,8 +53,8 @@ func TestPlacedAtTop(t *testing.T) {
 
 // TestCopyOf: the copy of a named file has no constraints, and its lines stay.
 func TestCopyOf(t *testing.T) {
-	named := &load.Package{Listed: &load.Listed{ImportPath: commandLine}}
-	for name, want := range map[string]string{"a.go": "goa_.go", "_a_linux.go": "go_a_linux_.go", "a_arm_test.go": "goa_arm__test.go"} {
+	named := &load.Package{Listed: &load.Listed{ImportPath: commandLine, GoFiles: []string{"_a_linux.go", "a.go"}}}
+	for name, want := range map[string]string{"a.go": "go001a_.go", "_a_linux.go": "go000_a_linux_.go", "a_arm_test.go": "go002a_arm__test.go"} {
 		if got, _ := copyOf(named, name, "package p\n"); got != want {
 			t.Errorf("%s: %s, wanted %s", name, got, want)
 		}
@@ -62,6 +62,12 @@ func TestCopyOf(t *testing.T) {
 	const source = "//go:build ignore\n// +build ignore\n\n// Package p.\npackage p\n//go:build none\n"
 	const free = "//\n//\n\n// Package p.\npackage p\n//go:build none\n"
 	if _, got := copyOf(named, "a.go", source); got != free {
+		t.Errorf("%q", got)
+	}
+	if _, got := copyOf(named, "a.go", "//go:build ignore || linux && go1.21\n\npackage p\n"); got != "//\n\npackage p\n" {
+		t.Errorf("%q", got)
+	}
+	if _, got := copyOf(named, "a.go", "//go:build linux && go1.21\n// +build linux\n\npackage p\n"); got != "//go:build go1.21\n//\n\npackage p\n" {
 		t.Errorf("%q", got)
 	}
 	other := &load.Package{Listed: &load.Listed{ImportPath: "p"}}

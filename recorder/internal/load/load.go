@@ -182,11 +182,31 @@ func withAliases(do func() error) error {
 	return err
 }
 
-// IterationVariables reports whether the package's loops have variables of each iteration, as
-// from Go 1.22.
-func (p *Package) IterationVariables() bool {
+// IterationVariables reports whether a file's loops have variables of each iteration, as from Go
+// 1.22: by its constraint, if that asks for a version, else by the module's go line.
+func (p *Package) IterationVariables(f *ast.File) bool {
+	if minor := FileVersion(f); minor > 0 {
+		return p.NewToolchain() && minor >= 22
+	}
+	return p.hasNewLoops()
+}
+
+func (p *Package) hasNewLoops() bool {
 	return p.NewToolchain() && (p.Module == nil || isFrom22(p.Module.GoVersion))
 }
+
+// OldLoops reports whether the loops of all files have one variable each, with a newer Go.
+func (p *Package) OldLoops() bool {
+	for _, f := range p.Files {
+		if p.IterationVariables(f) {
+			return false
+		}
+	}
+	return p.NewToolchain()
+}
+
+// OldLanguage reports whether those have, with a newer Go, whose constraints ask for no version.
+func (p *Package) OldLanguage() bool { return p.NewToolchain() && !p.hasNewLoops() }
 
 // NewToolchain reports whether the command go gives loops variables of each iteration, unless a
 // module's go line is older.

@@ -11,7 +11,7 @@ import (
 // facts are what is known of a package's variables.
 type facts struct {
 	info         *types.Info
-	perIteration bool
+	perIteration bool                    // the file that is looked at has loops with variables of each iteration
 	owner        map[*types.Var]ast.Node // the function that declares it
 	captured     map[*types.Var]bool     // a function inside that one uses it
 	written      map[*types.Var]bool     // after its declaration
@@ -26,15 +26,15 @@ func (f *facts) shared(v *types.Var) bool {
 
 func factsOf(p *load.Package) *facts {
 	f := &facts{
-		info:         p.Info,
-		perIteration: p.IterationVariables(),
-		owner:        map[*types.Var]ast.Node{},
-		captured:     map[*types.Var]bool{},
-		written:      map[*types.Var]bool{},
-		pointed:      map[*types.Var]bool{},
-		results:      map[ast.Node][]*types.Var{},
+		info:     p.Info,
+		owner:    map[*types.Var]ast.Node{},
+		captured: map[*types.Var]bool{},
+		written:  map[*types.Var]bool{},
+		pointed:  map[*types.Var]bool{},
+		results:  map[ast.Node][]*types.Var{},
 	}
 	for _, file := range p.Files {
+		f.perIteration = p.IterationVariables(file)
 		for _, d := range file.Decls {
 			if fd, ok := d.(*ast.FuncDecl); ok {
 				f.visit(fd, fd)

@@ -24,10 +24,11 @@ import (
 
 // Result is a package with the recorder's calls.
 type Result struct {
-	Files   []string // in the order of the package's files; the first has the sites, and the function main
-	Refused []string // what can't be recorded, each with its place
-	Missed  []string // calls whose accesses aren't recorded
-	Early   []string // places of uses that are recorded before a call that is a part of them
+	Files     []string     // in the order of the package's files; the first has the sites, and the function main
+	Refused   []string     // what can't be recorded, each with its place
+	Missed    []string     // calls whose accesses aren't recorded
+	Placeless map[int]bool // files, by their numbers, whose copies may have no line directives
+	Early     []string     // places of uses that are recorded before a call that is a part of them
 }
 
 // rewriter is the work on one file.
@@ -67,6 +68,7 @@ type shared struct {
 // the packages that are rewritten.
 func Package(p *load.Package, base string, own map[string]bool, table *sites.Table) Result {
 	s := &shared{p: p, base: base, info: p.Info, facts: factsOf(p), own: own, table: table}
+	s.result.Placeless = map[int]bool{}
 	var files []*rewriter
 	for i, f := range p.Files {
 		r := &rewriter{shared: s, file: f, keep: map[string]bool{}, behind: map[ast.Expr]string{}, pointers: map[ast.Node]string{},
@@ -82,8 +84,38 @@ func Package(p *load.Package, base string, own map[string]bool, table *sites.Tab
 			r.insert(behindImports(r.file), s.sites())
 		}
 		s.result.Files = append(s.result.Files, r.text(r.start, r.end(), r.edits))
+		s.result.Placeless[i] = s.placeless(r.file)
 	}
 	return s.result
+}
+
+// placeless reports whether a file's copy may have no line directives: the compiler of Go 1.24 takes
+// loops behind one for new ones, unless it is told that the package has none. A loop's variable tells
+// the difference where several iterations share it.
+func (s *shared) placeless(f *ast.File) (is bool) {
+	if s.p.IterationVariables(f) || s.p.OldLoops() || !s.p.NewToolchain() {
+		return false
+	}
+	ast.Inspect(f, func(n ast.Node) bool {
+		loop, ok := n.(*ast.ForStmt)
+		is = is || ok && s.sharesVariable(loop)
+		return !is
+	})
+	return is
+}
+
+// sharesVariable reports whether a variable that a loop begins with may be used when its iteration has ended.
+func (s *shared) sharesVariable(loop *ast.ForStmt) bool {
+	begin, ok := loop.Init.(*ast.AssignStmt)
+	if !ok || begin.Tok != token.DEFINE {
+		return false
+	}
+	for _, e := range begin.Lhs {
+		if v, ok := s.info.Defs[e.(*ast.Ident)].(*types.Var); ok && s.facts.shared(v) {
+			return true
+		}
+	}
+	return false
 }
 
 // sites declares the package's sites, and the function main. They stand before all else that the

@@ -48,7 +48,7 @@ func checkDuration(s string) error { _, err := time.ParseDuration(s); return err
 var (
 	valueFlags = strings.Fields(`bench benchtime blockprofile blockprofilerate count cpu cpuprofile list
 		memprofile memprofilerate mutexprofile mutexprofilefraction outputdir parallel run shuffle skip timeout trace`)
-	boolFlags = strings.Fields("benchmem failfast fullpath short v")
+	boolFlags = strings.Fields("artifacts benchmem failfast fullpath short v")
 )
 
 // define adds the flags of go test that are passed on.
@@ -76,7 +76,7 @@ const fuzzing = "it runs processes of its own, which aren't recorded"
 
 // otherFlags are flags of go test that gorec doesn't have, and why.
 var otherFlags = map[string]string{
-	"race": "gorec looks for races itself", "c": "gorec build -tests builds them", "vet": "go vet isn't run",
+	"race": "gorec looks for races itself", "C": "call gorec in that folder", "c": "gorec build -tests builds them", "vet": "go vet isn't run",
 	"cover": "coverage isn't counted", "covermode": "coverage isn't counted", "coverpkg": "coverage isn't counted",
 	"coverprofile": "coverage isn't counted", "fuzz": fuzzing, "fuzztime": fuzzing, "fuzzminimizetime": fuzzing, "exec": "the tests are run by gorec", "i": "", "x": "", "n": "", "work": "", "a": "",
 	"ldflags": "", "gcflags": "", "asmflags": "", "gccgoflags": "", "toolexec": "", "compiler": "", "overlay": "", "msan": "", "asan": "",
@@ -223,5 +223,5 @@ func (w *testWords) programWords() []string {
 	return append(words, w.passed...)
 }
 
-// profiles are flags that name a file, which is below the folder of outputdir.
-var profiles = strings.Fields("blockprofile cpuprofile memprofile mutexprofile trace")
+// profiles are flags by which files are written, below the folder of outputdir.
+var profiles = strings.Fields("artifacts blockprofile cpuprofile memprofile mutexprofile trace")

@@ -22,6 +22,8 @@ func TestTestWords(t *testing.T) {
 		{"-tags x . -p 2 -json", ".", ""},
 		{". -v -race", "", "refused: test: -race is a flag of go test that gorec doesn't have: gorec looks for races itself; after -args it goes to the tests (gorec help test)"},
 		{"-none .", "", "refused: test: gorec and go test don't know -none; a flag of the tests comes after the packages (gorec help test)"},
+		{"-C a .", "", "refused: test: -C is a flag of go test that gorec doesn't have: call gorec in that folder; after -args it goes to the tests (gorec help test)"},
+		{"-artifacts .", ".", "-test.artifacts=true"},
 		{". -run", "", "refused: test: -run needs a value (gorec help test)"},
 		{". -timeout 5", "", `refused: test: -timeout 5: time: missing unit in duration "5" (gorec help test)`},
 	} {

@@ -353,6 +353,23 @@ func goEnv(name string) (string, error) {
 	return strings.TrimSpace(string(value)), nil
 }
 
+// linkFlags have the linker tell what a GOPATH doesn't: where Go stands, which settings there are, and which
+// modules. These are in a frame of 16 bytes.
+func (p *Program) linkFlags(goroot string) string {
+	frame := strings.Repeat(" ", 16)
+	values := []string{"defaultGOROOT=" + goroot, "godebugDefault=" + p.GODEBUG}
+	if p.BuildInfo != "" {
+		values = append(values, "modinfo="+frame+p.BuildInfo+frame)
+	}
+	flags := ""
+	for _, v := range values {
+		if !strings.Contains(v, "'") {
+			flags += " -X 'runtime." + v + "'"
+		}
+	}
+	return flags
+}
+
 // goCommand is the command go of a GOROOT. A go.mod may have asked for a newer one than the PATH's,
 // which a GOPATH doesn't do.
 func goCommand(goroot string) string {
@@ -380,8 +397,7 @@ func buildTags() (string, error) {
 
 // Build builds a program, or one of tests, to a file, beside which the sites are written.
 // -trimpath lets the build cache serve copies in other folders; the sources tell where they
-// were copied from, and the linker where Go stands, and which settings there are: a GOPATH has those of
-// Go 1.20.
+// were copied from.
 func (p *Program) Build(run func(*exec.Cmd) error, file string, tests bool) error {
 	words := []string{"build"}
 	if tests {
@@ -397,7 +413,7 @@ func (p *Program) Build(run func(*exec.Cmd) error, file string, tests bool) erro
 	}
 	words = append(words, p.copy.languages...) // a GOPATH has no go lines
 	words = append(words, p.copy.flags...)
-	words = append(words, "-trimpath", "-ldflags=-X 'runtime.defaultGOROOT="+goroot+"' -X 'runtime.godebugDefault="+p.GODEBUG+"'", "-o", file, p.path)
+	words = append(words, "-trimpath", "-ldflags="+p.linkFlags(goroot), "-o", file, p.path)
 	cmd := exec.Command(goCommand(goroot), words...)
 	cmd.Dir = p.copy.Dir
 	cmd.Stdout, cmd.Stderr = os.Stderr, os.Stderr

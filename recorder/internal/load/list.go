@@ -31,8 +31,10 @@ type Listed struct {
 
 // Module is a package's module.
 type Module struct {
-	Path, Dir, GoVersion string
-	Main                 bool
+	Path, Version, Sum string
+	Dir, GoVersion     string
+	Main               bool
+	Replace            *Module
 }
 
 // PackageError is why go list can't load a package, and the place of the import.
@@ -53,6 +55,7 @@ type Program struct {
 	Broken          string          // why it can't be built, in the words of go test
 	Parts           map[string]bool // the import paths of the packages that it has
 	GODEBUG         string          // the settings that it begins with, by its module's version of Go
+	BuildInfo       string          // what runtime/debug tells it of its modules
 }
 
 // list runs go list, which compiles what the packages need into the build cache. With tolerant
@@ -94,7 +97,9 @@ func mains(all []*Listed) []*Program {
 	var programs []*Program
 	for _, l := range all {
 		if !l.DepOnly && l.Name == "main" {
-			programs = append(programs, &Program{ImportPath: l.ImportPath, Dir: l.Dir, Standard: l.Standard, Parts: parts(l), GODEBUG: l.DefaultGODEBUG})
+			programs = append(programs, &Program{
+				ImportPath: l.ImportPath, Dir: l.Dir, Standard: l.Standard, Parts: parts(l), GODEBUG: l.DefaultGODEBUG, BuildInfo: buildInfo(l, all),
+			})
 		}
 	}
 	return programs
@@ -139,7 +144,7 @@ func tests(all []*Listed) []*Program {
 		case of.Export == "" && (p.HasTests || !p.Standard): // as unsafe
 			p.Broken = "build failed"
 		case p.HasTests:
-			p.Parts, p.GODEBUG = parts(of), of.DefaultGODEBUG
+			p.Parts, p.GODEBUG, p.BuildInfo = parts(of), of.DefaultGODEBUG, buildInfo(of, all)
 		}
 	}
 	sort.Slice(programs, func(i, j int) bool { return programs[i].ImportPath < programs[j].ImportPath })

@@ -61,3 +61,30 @@ func TestTests(t *testing.T) {
 		t.Error(p)
 	}
 }
+
+// TestBuildInfo: a program is told its modules as the command go tells them.
+func TestBuildInfo(t *testing.T) {
+	module := &Module{Path: "m", Main: true}
+	dep := &Module{Path: "d", Version: "v1.2.3", Sum: "h1:x"}
+	moved := &Module{Path: "a", Version: "v1.0.0", Sum: "h1:y", Replace: &Module{Path: "./a"}}
+	all := []*Listed{
+		{ImportPath: "fmt", Standard: true},
+		{ImportPath: "d/one", Module: dep},
+		{ImportPath: "d/two", Module: dep},
+		{ImportPath: "a", Module: moved},
+		{ImportPath: "other", Module: &Module{Path: "other"}},
+		{ImportPath: "m/p", Module: module},
+		{ImportPath: "m", Module: module, Deps: []string{"fmt", "d/one", "d/two", "a", "m/p"}},
+		{ImportPath: "command-line-arguments", Deps: []string{"fmt", "d/one"}},
+	}
+	const deps = "dep\ta\tv1.0.0\n=>\t./a\t(devel)\t\n\ndep\td\tv1.2.3\th1:x\n"
+	for i, want := range map[int]string{
+		0: "",
+		6: "path\tm\nmod\tm\t(devel)\t\n" + deps,
+		7: "path\tcommand-line-arguments\ndep\td\tv1.2.3\th1:x\n",
+	} {
+		if got := buildInfo(all[i], all); got != want {
+			t.Errorf("%s: %q, not %q", all[i].ImportPath, got, want)
+		}
+	}
+}

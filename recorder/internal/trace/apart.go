@@ -7,10 +7,11 @@ import "gorace.local/recorder/wire"
 
 const whole = 0xff
 
-// parts are the variables that one of a log becomes: which bytes each has, and the number of
-// the second one; those of the others follow.
+// parts are the variables that one of a log becomes: which bytes each has, the site of the first access
+// of just these, or 0, and the number of the second one; those of the others follow.
 type parts struct {
 	bytes  []uint8
+	sites  []uint32
 	second uint32
 }
 
@@ -37,7 +38,7 @@ func divide(l reading) divided {
 	}
 	l.each(func(r *wire.Record) {
 		if p := d[r.Object]; p != nil && isPlain(r.Op) {
-			p.divide(bytesOf(r))
+			p.divide(bytesOf(r), r.Site)
 		}
 	})
 	for _, p := range inOrder {
@@ -59,17 +60,23 @@ func bytesOf(r *wire.Record) uint8 {
 }
 
 // divide tells these bytes from the others.
-func (p *parts) divide(bytes uint8) {
+func (p *parts) divide(bytes uint8, site uint32) {
 	rest := bytes
 	for k, b := range p.bytes {
 		rest &^= b
 		if in, out := b&bytes, b&^bytes; in != 0 && out != 0 {
-			p.bytes[k] = in
-			p.bytes = append(p.bytes, out)
+			p.bytes[k], p.sites[k] = in, 0
+			p.bytes, p.sites = append(p.bytes, out), append(p.sites, 0)
+		}
+		if p.bytes[k] == bytes && p.sites[k] == 0 {
+			p.sites[k] = site
 		}
 	}
 	if rest != 0 {
-		p.bytes = append(p.bytes, rest)
+		if rest != bytes {
+			site = 0
+		}
+		p.bytes, p.sites = append(p.bytes, rest), append(p.sites, site)
 	}
 }
 
@@ -115,6 +122,9 @@ func (d divided) put(records []wire.Record, r wire.Record) {
 			r.Object = p.second + uint32(k-1)
 		}
 		r.Count = 0
+		if r.Op == wire.DeclareVar {
+			r.OtherSite = p.sites[k]
+		}
 		records[n] = r
 		n++
 	}

@@ -238,11 +238,15 @@ func (d *declarer) order(i int, o *object) {
 	d.counts[o.word]++
 }
 
-// variableName is the name at a variable's first site, and that of its field.
+// variableName is the name at a variable's first site, and that of its field. In a word with others it
+// may be another's.
 func (d *declarer) variableName(o *object) string {
 	site := d.table[o.site]
 	if wire.VarKind(o.kind) != wire.VarMemory {
 		return site.Name
+	}
+	if own := d.table[o.own]; o.own != 0 && len(own.Fields) == 0 {
+		return own.Name
 	}
 	if field := site.Fields[o.value]; field != "" {
 		return site.Name + "_" + field

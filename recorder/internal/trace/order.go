@@ -101,7 +101,7 @@ func (o *order) len() int { return o.steps + int(o.before[len(o.before)-1]) }
 
 // inOrder sets the records of a log to where they were done, where bytes that are told apart (apart.go)
 // are variables of their own. The Value of a DeclareVar becomes the offset that its OtherSite
-// is in the log.
+// is in the log, and its OtherSite the site of the first access of just its bytes, or 0.
 func inOrder(l reading, room func(n int) []wire.Record) []wire.Record {
 	o := newOrder(l)
 	ordered := room(o.len())

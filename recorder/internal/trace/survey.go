@@ -8,6 +8,7 @@ type object struct {
 	kind  uint8
 	word  wire.Op // for an order: the declaration of what stands for it
 	site  uint32
+	own   uint32 // of a variable that has some bytes of a word: the site of the first access of just these, or 0
 	value uint64
 
 	user    uint32 // one more than the first goroutine that uses it, 0 for none
@@ -74,7 +75,7 @@ func (s *survey) object(id uint32) *object {
 }
 
 func (o *object) declare(r *wire.Record) {
-	o.op, o.kind, o.site, o.value = r.Op, r.Kind, r.Site, r.Value
+	o.op, o.kind, o.site, o.own, o.value = r.Op, r.Kind, r.Site, r.OtherSite, r.Value
 }
 
 // use notes that a goroutine uses an object.

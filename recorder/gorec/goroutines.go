@@ -274,6 +274,7 @@ func growStack(i int) byte {
 
 func (g *G) exit(s *Site) {
 	begin()
+	g.leaves(s)
 	g.note(wire.Exit, 0, s)
 	g.g = 0
 	delete(goingOn, g)

@@ -102,7 +102,7 @@ func forget() {
 	}
 	clearShadow()
 	lastAtomic, pooled = map[unsafe.Pointer]uint32{}, map[unsafe.Pointer]uint32{}
-	lastStores, sentOut, ends, lastWork = map[syncMapKey]uint32{}, nil, nil, 0
+	lastStores, sentOut, ends, lastWork, gone = map[syncMapKey]uint32{}, nil, nil, 0, 0
 	callbacks = map[callback]uint32{}
 	for h := range adopted {
 		h.work = 0

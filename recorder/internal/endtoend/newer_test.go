@@ -245,6 +245,37 @@ var newer = []struct {
 	all := func(string, string) (bool, error) { return true, nil }
 	testing.Main(all, []testing.InternalTest{{Name: "bubble", F: run}}, nil, nil)
 `, verdict{races: []string{"racy"}}},
+	{"what a bubble waits for", 25, "(\n\t\"testing\"\n\t\"testing/synctest\"\n\t\"time\"\n)", `	x := 0
+	bubble := func(t *testing.T) {
+		go func() { x++ }()
+		synctest.Wait()
+		x++
+		c := make(chan int)
+		go func() {
+			x++
+			<-c
+			x++
+		}()
+		synctest.Wait()
+		x++
+		close(c)
+		synctest.Wait()
+		x++
+		time.AfterFunc(time.Second, func() { x++ })
+		time.Sleep(time.Second)
+		synctest.Wait()
+		t.Cleanup(func() { x++ })
+		if x++; x != 8 {
+			t.Error(x)
+		}
+	}
+	run := func(t *testing.T) {
+		synctest.Test(t, bubble)
+		x++
+	}
+	all := func(string, string) (bool, error) { return true, nil }
+	testing.Main(all, []testing.InternalTest{{Name: "bubble", F: run}}, nil, nil)
+`, verdict{}},
 	{"clear of a type parameter's value", 21, "\"fmt\"\n\nfunc empty[T []int | map[int]int](t T) { clear(t) }", `	slice, m := []int{1}, map[int]int{1: 1}
 	empty(slice)
 	empty(m)

@@ -200,11 +200,12 @@ func (r *rewriter) libraryCall(e *ast.CallExpr, sel *ast.SelectorExpr, f *types.
 
 // apartCalls are functions whose arguments are changed one by one.
 var apartCalls = map[string]bool{
-	"context.WithTimeout":  true,
-	"context.WithDeadline": true,
-	"runtime.SetFinalizer": true,
-	"(*testing.T).Run":     true,
-	"(*testing.B).Run":     true,
+	"context.WithTimeout":   true,
+	"context.WithDeadline":  true,
+	"runtime.SetFinalizer":  true,
+	"(*testing.T).Run":      true,
+	"(*testing.B).Run":      true,
+	"testing/synctest.Test": true,
 }
 
 // contextCalls are functions of package context since Go 1.20, and what goes round them.
@@ -251,6 +252,14 @@ func (r *rewriter) testingCall(e *ast.CallExpr, sel *ast.SelectorExpr, full stri
 		r.insert(e.Pos(), "gorec.Parallel(")
 		r.value(sel.X)
 		r.replace(e.Lparen, e.Rparen+1, ", "+r.site(e, "test")+")")
+	case "testing/synctest.Test":
+		r.insert(e.Pos(), "gorec.Bubble(")
+		r.replace(e.Lparen, e.Lparen+1, ", ")
+		r.values(e.Args)
+		r.insert(e.Rparen, r.comma(e)+r.site(e, "test"))
+	case "testing/synctest.Wait":
+		r.insert(e.Pos(), "gorec.Settled(")
+		r.replace(e.Lparen, e.Rparen+1, ", "+r.site(e, "bubble")+")")
 	case "(*testing.common).Cleanup", "(testing.TB).Cleanup":
 		r.value(sel.X)
 		r.wrapArgument(e.Args[0], "Cleanup", r.site(e, "test"))

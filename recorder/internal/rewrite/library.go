@@ -154,7 +154,7 @@ func (r *rewriter) methodCall(e *ast.CallExpr, sel *ast.SelectorExpr, f *types.F
 	switch {
 	case r.postponed:
 		r.value(sel)
-		if isContent {
+		if !r.deferBefore(e, sel, f, name) && isContent {
 			r.result.Missed = append(r.result.Missed, "deferred "+f.FullName())
 		}
 	case isContent:
@@ -186,6 +186,50 @@ func (r *rewriter) methodCall(e *ast.CallExpr, sel *ast.SelectorExpr, f *types.F
 	default:
 		r.value(sel)
 	}
+}
+
+// deferBefore has the recorder told of a deferred call of X.M just before it, by a call of its own that
+// is deferred behind it. It reports whether that can be: X is evaluated twice.
+func (r *rewriter) deferBefore(e *ast.CallExpr, sel *ast.SelectorExpr, f *types.Func, name string) bool {
+	if r.deferred != e || !r.isRepeatable(sel.X) {
+		return false
+	}
+	call, object := r.deferredUse(sel, f)
+	if call != "" {
+		r.insert(e.End(), "; defer gorec."+call+"("+object+", "+r.site(e, name)+")")
+	}
+	return call != ""
+}
+
+// deferredUse is the recorder's call for X.M, and what it is about: X, or the embedded field that has M.
+func (r *rewriter) deferredUse(sel *ast.SelectorExpr, f *types.Func) (call, object string) {
+	typ, method := receiverType(f), f.Name()
+	path, last := r.promotion(sel)
+	object = r.source(sel.X)
+	isHandle := isPointer(r.typeOf(sel.X)) || isInterface(r.typeOf(sel.X))
+	reads, isContent := contentTypes[typ]
+	switch {
+	case isContent && r.canName(sel):
+		object += path
+		if path == "" && !isPointer(r.typeOf(sel.X)) || path != "" && !isPointer(last) {
+			object = "&" + object
+		}
+		if hasWord(reads, method) {
+			return "Reads", object
+		}
+		return "Writes" + throughTypes[typ], object
+	case isContent:
+	case goesOut(typ, method) && (path == "" || isHandle):
+		return "Out", object
+	case goesOut(typ, method) && (isPointer(last) || isInterface(last)) && r.canName(sel):
+		return "Out", object + path
+	case path != "" || !isInterface(r.typeOf(sel.X)):
+	case method == "Close":
+		return "Closes", object
+	case hasWord(streamMethods, method) && !strings.HasPrefix(method, "Read"):
+		return "StreamOut", object
+	}
+	return "", ""
 }
 
 // goesOut reports whether a method of a file, a connection or a listener has others go on, who read
@@ -269,6 +313,9 @@ func (r *rewriter) foreignArgument(e *ast.CallExpr, f *types.Func, i int) {
 	switch {
 	case call == "Sortable": // by whose methods it is recorded, whenever that is
 		r.wrapArgument(a, call, r.site(a, r.name(converted(a))+"_elem"))
+	case call == "StreamOut" && r.deferred == e && r.isRepeatable(a):
+		r.value(a)
+		r.insert(e.End(), "; defer gorec.StreamOut("+r.source(a)+", "+r.site(a, r.name(a))+")")
 	case !known || call != "" && !isEnd(r.typeOf(a)) && (r.postponed || r.calls(e.Args[i+1:]...)):
 		r.result.Missed = append(r.result.Missed, f.FullName())
 		r.value(a)

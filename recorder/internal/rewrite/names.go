@@ -110,17 +110,14 @@ func addFields(names map[uint64]string, t types.Type, offset int64, prefix strin
 	}
 }
 
-// hasParameter reports whether the size of t may depend on a type parameter.
+// hasParameter reports whether the size of t may depend on a type parameter. What an instance is
+// made of has its arguments in it; one that an instance has behind a pointer, as a list's element
+// with an atomic.Pointer to the next, may be t itself.
 func hasParameter(t types.Type) bool {
 	switch t := t.(type) {
 	case *types.TypeParam:
 		return true
 	case *types.Named:
-		for i := 0; i < t.TypeArgs().Len(); i++ {
-			if hasParameter(t.TypeArgs().At(i)) {
-				return true
-			}
-		}
 		return hasParameter(t.Underlying())
 	case *types.Struct:
 		for i := 0; i < t.NumFields(); i++ {

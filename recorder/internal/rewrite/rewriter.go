@@ -44,6 +44,7 @@ type rewriter struct {
 	labeled   ast.Stmt                // the last statement with a label
 	here      *loopOfOne              // the loop that is changed, if one goroutine does all of it (here.go)
 	postponed bool                    // a call is changed that is made later
+	deferred  *ast.CallExpr           // the call of the last defer statement
 	pointers  map[ast.Node]string     // to the results of functions in which another variable has their name
 	late      map[ast.Expr]bool       // reads that are recorded after a call (order.go)
 	after     map[ast.Expr][]ast.Expr // those of each call

@@ -37,6 +37,7 @@ func (r *rewriter) statement(s ast.Stmt, inBlock bool) {
 		r.goStatement(s)
 	case *ast.DeferStmt:
 		r.together(s.Call)
+		r.deferred = s.Call
 		r.postpone(func() { r.call(s.Call) })
 	case *ast.ReturnStmt:
 		r.returnStatement(s)

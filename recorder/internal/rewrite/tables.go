@@ -64,7 +64,7 @@ const streamMethods = "Write WriteString WriteByte WriteRune Read ReadByte ReadR
 
 // outTypes are those of files and connections, by which goroutines may meet.
 // net.conn has their methods.
-var outTypes = words(`os.File net.Conn net.TCPConn net.UDPConn net.UnixConn net.conn io.PipeWriter`)
+var outTypes = words(`os.File net.Conn net.TCPConn net.UDPConn net.UnixConn net.IPConn net.conn crypto/tls.Conn io.PipeWriter`)
 
 // listenerTypes are those that wait for connections.
 var listenerTypes = words(`net.Listener net.TCPListener net.UnixListener`)

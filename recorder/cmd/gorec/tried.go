@@ -6,7 +6,7 @@ import (
 )
 
 // tried are the versions 1.x of Go with which all tests were run, and triedOn is where.
-var tried = []int{19, 23, 24, 27}
+var tried = []int{19, 23, 24, 26, 27}
 
 const triedOn = "linux/amd64"
 

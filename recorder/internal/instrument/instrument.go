@@ -275,7 +275,7 @@ func toldLine(text, file string, end int) string {
 // copyFiles copies what a package is made of but for its Go files, which follow.
 func copyFiles(p *load.Package, to string) error {
 	names := append(append(append([]string{}, p.EmbedFiles...), p.SFiles...), p.HFiles...)
-	own := len(names)
+	others := len(names) // Go files follow, which tell where they were copied from
 	if !p.Recorded() {
 		for _, l := range [][]string{p.GoFiles, p.CgoFiles, p.CFiles, p.CXXFiles, p.SysoFiles} {
 			names = append(names, l...)
@@ -289,7 +289,7 @@ func copyFiles(p *load.Package, to string) error {
 		if err != nil {
 			return err
 		}
-		if i >= own && filepath.Ext(name) == ".go" {
+		if i >= others && filepath.Ext(name) == ".go" {
 			file := filepath.Join(p.Dir, name)
 			var text string
 			name, text = copyOf(p, name, string(b))

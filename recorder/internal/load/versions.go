@@ -11,8 +11,11 @@ import (
 // language that it is in; 0 is any.
 func FileVersion(f *ast.File) int {
 	for _, group := range f.Comments {
+		if group.Pos() > f.Package {
+			break
+		}
 		for _, c := range group.List {
-			if c.Pos() > f.Package || !constraint.IsGoBuild(c.Text) {
+			if !constraint.IsGoBuild(c.Text) {
 				continue
 			}
 			if x, err := constraint.Parse(c.Text); err == nil {

@@ -68,7 +68,7 @@ func (l *loop) variable(e ast.Expr) (name string, shared bool) {
 	if !l.define {
 		return "=", false
 	}
-	return identifier(e), l.isRecorded(e) && !l.p.IterationVariables(l.file)
+	return identifier(e), l.isRecorded(e) && !l.newLoops
 }
 
 // length is Go's len in the loop's head, where its variables may have that name.

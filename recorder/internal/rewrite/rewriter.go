@@ -24,11 +24,11 @@ import (
 
 // Result is a package with the recorder's calls.
 type Result struct {
-	Files     []string     // in the order of the package's files; the first has the sites, and the function main
-	Refused   []string     // what can't be recorded, each with its place
-	Missed    []string     // calls whose accesses aren't recorded
-	Placeless map[int]bool // files, by their numbers, whose copies may have no line directives
-	Early     []string     // places of uses that are recorded before a call that is a part of them
+	Files     []string // in the order of the package's files; the first has the sites, and the function main
+	Refused   []string // what can't be recorded, each with its place
+	Missed    []string // calls whose accesses aren't recorded
+	Placeless []bool   // for each file, whether its copy may have no line directives
+	Early     []string // places of uses that are recorded before a call that is a part of them
 }
 
 // rewriter is the work on one file.
@@ -45,6 +45,8 @@ type rewriter struct {
 	here      *loopOfOne              // the loop that is changed, if one goroutine does all of it (here.go)
 	postponed bool                    // a call is changed that is made later
 	deferred  *ast.CallExpr           // the call of the last defer statement
+	newLoops  bool                    // the file's loops have variables of each iteration
+	placeless bool                    // its copy may have no line directives
 	pointers  map[ast.Node]string     // to the results of functions in which another variable has their name
 	late      map[ast.Expr]bool       // reads that are recorded after a call (order.go)
 	after     map[ast.Expr][]ast.Expr // those of each call
@@ -69,13 +71,14 @@ type shared struct {
 // the packages that are rewritten.
 func Package(p *load.Package, base string, own map[string]bool, table *sites.Table) Result {
 	s := &shared{p: p, base: base, info: p.Info, facts: factsOf(p), own: own, table: table}
-	s.result.Placeless = map[int]bool{}
 	var files []*rewriter
 	for i, f := range p.Files {
 		r := &rewriter{shared: s, file: f, keep: map[string]bool{}, behind: map[ast.Expr]string{}, pointers: map[ast.Node]string{},
 			late: map[ast.Expr]bool{}, after: map[ast.Expr][]ast.Expr{}, imports: map[string]string{}}
 		r.src = p.Sources[i]
 		r.start = p.Fset.File(f.Pos()).Pos(0)
+		r.newLoops = p.IterationVariables(f)
+		r.placeless = !r.newLoops && s.isMixed() && s.sharesVariables(f)
 		r.rewriteFile()
 		files = append(files, r)
 	}
@@ -85,18 +88,18 @@ func Package(p *load.Package, base string, own map[string]bool, table *sites.Tab
 			r.insert(behindImports(r.file), s.sites())
 		}
 		s.result.Files = append(s.result.Files, r.text(r.start, r.end(), r.edits))
-		s.result.Placeless[i] = s.placeless(r.file)
+		s.result.Placeless = append(s.result.Placeless, r.placeless)
 	}
 	return s.result
 }
 
-// placeless reports whether a file's copy may have no line directives: the compiler of Go 1.24 takes
-// loops behind one for new ones, unless it is told that the package has none. A loop's variable tells
-// the difference where several iterations share it.
-func (s *shared) placeless(f *ast.File) (is bool) {
-	if s.p.IterationVariables(f) || s.p.OldLoops() || !s.p.NewToolchain() {
-		return false
-	}
+// isMixed reports whether some files may have old loops, and others new ones. The compiler of Go 1.24
+// takes old loops behind a line directive for new ones, unless it is told that the package has none.
+func (s *shared) isMixed() bool { return s.p.NewToolchain() && !s.p.OldLoops() }
+
+// sharesVariables reports whether several iterations of a loop may use one variable that it begins with, so
+// that old loops do something else than new ones.
+func (s *shared) sharesVariables(f *ast.File) (is bool) {
 	ast.Inspect(f, func(n ast.Node) bool {
 		loop, ok := n.(*ast.ForStmt)
 		is = is || ok && s.sharesVariable(loop)

@@ -194,7 +194,7 @@ func (r *rewriter) goStatement(s *ast.GoStmt) {
 // another one: a goroutine is started where its go stands, and not where its arguments end.
 func (r *rewriter) atLine(pos, other token.Pos) string {
 	at := r.p.Fset.Position(pos)
-	if at.Line == r.p.Fset.Position(other).Line || r.placeless(r.file) {
+	if at.Line == r.p.Fset.Position(other).Line || r.placeless {
 		return ""
 	}
 	return fmt.Sprintf("/*line :%d:%d*/", at.Line, at.Column)

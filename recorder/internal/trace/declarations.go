@@ -238,8 +238,8 @@ func (d *declarer) order(i int, o *object) {
 	d.counts[o.word]++
 }
 
-// variableName is the name at a variable's first site, and that of its field. In a word with others it
-// may be another's.
+// variableName is the name at a variable's first site, and that of its field. The first site of a word may be
+// of another variable there: where bytes are told apart, that of the first access of just them counts.
 func (d *declarer) variableName(o *object) string {
 	site := d.table[o.site]
 	if wire.VarKind(o.kind) != wire.VarMemory {

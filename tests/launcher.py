@@ -110,6 +110,7 @@ def the_newer_source_is_named(clone):
 def who_cannot_write_is_told_so(clone):
     (clone.top / "crates/low").chmod(0o555)
     ran = clone.run(preexec_fn=(lambda: os.setuid(NOBODY)) if os.geteuid() == 0 else None)
+    (clone.top / "crates/low").chmod(0o755)
     equal((ran.returncode, ran.stdout), (70, ""))
     within(ran.stderr, f"gorace: not built yet, and this user can't write into {clone.top}/crates/low\n")
     equal(clone.built(), [])
@@ -141,6 +142,7 @@ def wrong_in(test):
 
 
 def main(words):
+    os.umask(0o022)
     tests = [it for it in TESTS if not words or any(word in it.__name__ for word in words)]
     if not tests:
         sys.exit(f"tests/launcher.py: no test has {' or '.join(words)} in its name")

@@ -35,7 +35,7 @@ import textwrap
 ROOT = pathlib.Path(__file__).resolve().parent.parent
 FOLLOWED_ELSEWHERE = {"docs/GETTING_STARTED.md"}
 NEEDS_GO = re.compile(r"gorec|go build")
-SECONDS = 300
+MINUTES = 30
 PLAINER = (
     (r"(?:want|lack) of memory", "out of memory"),
     (r"memory aside", "unless out of memory"),
@@ -111,12 +111,19 @@ def commands_of(block):
     return commands
 
 
+def ran(words, folder, **given):
+    """What a command prints, and its status."""
+    try:
+        it = subprocess.run(words, text=True, cwd=folder, timeout=60 * MINUTES, stdout=subprocess.PIPE, stderr=subprocess.STDOUT, **given)
+    except subprocess.TimeoutExpired:
+        return f"didn't end within {MINUTES} minutes", None
+    return it.stdout, it.returncode
+
+
 def run_block(commands, folder):
     """What each command prints; all run in one shell, and the next one sees the last status."""
     script = "".join(f"{command}\n__at=$?; printf '\\n@@@\\n'; (exit $__at)\n" for command, _ in commands)
-    ran = subprocess.run(["bash"], input=script, text=True, cwd=folder, timeout=SECONDS,
-                         stdout=subprocess.PIPE, stderr=subprocess.STDOUT)
-    return [part.strip("\n").splitlines() for part in ran.stdout.split("\n@@@\n")]
+    return [part.strip("\n").splitlines() for part in ran(["bash"], folder, input=script)[0].split("\n@@@\n")]
 
 
 def check_blocks(page, folder, with_recorder, failures):
@@ -157,15 +164,14 @@ def file_of(page, named):
 def run_file(file, picks, folder):
     words = ["check"] if file.suffix == ".gotrace" else ["race", "--picks", picks]
     with file.open() as text:
-        ran = subprocess.run([folder / "gorace", *words], stdin=text, text=True, timeout=SECONDS,
-                             stdout=subprocess.PIPE, stderr=subprocess.STDOUT)
-    return ran.stdout.splitlines(), str(ran.returncode)
+        told, status = ran([folder / "gorace", *words], folder, stdin=text)
+    return told.splitlines(), str(status)
 
 
 def counts_of_all_runs(program, folder):
     with program.open() as text:
-        ran = subprocess.run([folder / "gorace", "explore"], stdin=text, text=True, timeout=SECONDS, stdout=subprocess.PIPE)
-    return re.sub(r", (?!clean)\w+: 0\b", "", ran.stdout.splitlines()[-1])
+        told, _ = ran([folder / "gorace", "explore"], folder, stdin=text)
+    return re.sub(r", (?!clean)\w+: 0\b", "", (told.splitlines() or [""])[-1])
 
 
 def check_all_runs(page, file, cell, folder, failures):

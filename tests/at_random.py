@@ -1,14 +1,12 @@
 #!/usr/bin/env python3
 """Compares what the program says of random traces and programs with a judge of its own, tests/graph.py.
 
-    tests/at_random.py [--program PROGRAM] [--seed N] [--count N]
+    tests/at_random.py [--program PROGRAM] [--seed N] [--count N | --only NUMBER]
 
 A round is one of three: a trace of random events that are legal; a run of a random program, by picks or by workers; a trace
 that was damaged. Each is judged by `--plain` and by shards and blocks that take turns; a legal one's edges are listed, and a
 witness of each variable is asked for. What differs is printed with the input. The last line is `N passed, M failed`."""
 
-import argparse
-import os
 import random
 import re
 import shlex
@@ -17,9 +15,8 @@ import sys
 from concurrent.futures import ThreadPoolExecutor
 
 import graph
+from common import NO_END, SECONDS, alone, processors, rounds
 
-PROGRAM = os.path.join(os.path.dirname(__file__), "../crates/gorace/out/gorace")
-SECONDS = 60
 USUAL = 360
 SHARDS = (1, 2, 3, 7, 64)
 BLOCKS = (1, 5, 65536)
@@ -45,12 +42,20 @@ class Wrong(Exception):
         super().__init__(f"gorace {shlex.join(line)}\n-- in --\n{shown}-- told --\n{told}\n-- wanted --\n{wanted}")
 
 
+def failure(seed, number, wrong):
+    """Returns what is printed of a round that failed."""
+    return f"FAILED round {number} of seed {seed}: {wrong}\n{alone('--seed', seed, '--only', number)}"
+
+
 class Gorace:
     def __init__(self, program):
         self.program = program
 
     def told(self, given, *line):
-        it = subprocess.run([self.program, *line], input=given, capture_output=True, timeout=SECONDS, close_fds=False)
+        try:
+            it = subprocess.run([self.program, *line], input=given, capture_output=True, timeout=SECONDS, close_fds=False)
+        except subprocess.TimeoutExpired as late:
+            raise Wrong(line, given, NO_END, "an end") from late
         return it.stdout.decode(), it.returncode
 
     def tells(self, wanted, given, *line):
@@ -285,37 +290,29 @@ def round_of(gorace, seed, number):
     chance, seen = random.Random(f"{seed} {number}"), set()
     try:
         KINDS[number % 3](gorace, chance, number, seen)
-    except (Wrong, subprocess.TimeoutExpired) as wrong:
-        return seen, f"FAILED round {number} of seed {seed}: {wrong}"
+    except Wrong as wrong:
+        return seen, failure(seed, number, wrong)
     return seen, ""
 
 
-def unseen(rounds):
+def unseen(found):
     """Returns what so many rounds should have met, and didn't: each word, rule, status and end, and enough races."""
-    found = [seen for seen, _ in rounds]
     wanted = {*graph.WORDS, *ENDS, "a witness", *(f"status {it}" for it in (0, 1, 2, 66))}
     missed = wanted - set().union(*found)
-    few = [it for it in ("racy", "clean") if sum(it in seen for seen in found) < len(rounds) // 5]
+    few = [it for it in ("racy", "clean") if sum(it in seen for seen in found) < len(found) // 5]
     return sorted(missed) + few
 
 
 def main():
-    parser = argparse.ArgumentParser(description=__doc__, formatter_class=argparse.RawDescriptionHelpFormatter)
-    parser.add_argument("--program", default=PROGRAM)
-    parser.add_argument("--seed", type=int, default=1)
-    parser.add_argument("--count", type=int, default=USUAL)
-    given = parser.parse_args()
-    gorace = Gorace(os.path.realpath(given.program))
-    if not os.access(gorace.program, os.X_OK):
-        sys.exit(f"tests/at_random.py: {gorace.program} can't be run: build it by ./gorace, or name another by --program")
-    with ThreadPoolExecutor(os.cpu_count()) as pool:
-        rounds = [*pool.map(lambda number: round_of(gorace, given.seed, number), range(given.count))]
-    failed = [wrong for _, wrong in rounds if wrong]
-    if given.count >= USUAL and not failed and (missed := unseen(rounds)):
-        failed.append(f"FAILED: no round, or too few, met: {', '.join(missed)}")
+    program, seed, numbers = rounds(__doc__, USUAL)
+    with ThreadPoolExecutor(processors()) as pool:
+        done = [*pool.map(lambda number: round_of(Gorace(program), seed, number), numbers)]
+    failed = [wrong for _, wrong in done if wrong]
+    if len(numbers) >= USUAL and not failed and (missed := unseen([seen for seen, _ in done])):
+        failed.append(f"FAILED: no round, or too few, met: {', '.join(missed)}\n{alone('--seed', seed, '--count', len(numbers))}")
     for wrong in failed:
         print(wrong)
-    print(f"{given.count - len(failed)} passed, {len(failed)} failed")
+    print(f"{len(numbers) - len(failed)} passed, {len(failed)} failed")
     return 1 if failed else 0
 
 

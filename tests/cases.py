@@ -152,4 +152,8 @@ def files():
 
 def all_cases(words=()):
     """Returns the cases whose label has one of the words; all, where there are no words."""
-    return [case for file in files() for case in cases_of(file) if not words or any(word in case.label for word in words)]
+    found = [case for file in files() for case in cases_of(file)]
+    for word in words:
+        if not any(word in case.label for case in found):
+            raise BadCase(f"no file of cases, and no case, has {word!r} in its name")
+    return [case for case in found if not words or any(word in case.label for word in words)]

@@ -1,7 +1,7 @@
 #!/usr/bin/env python3
 """Compares what `gorace explore` says of small random programs with all their runs, by tests/explorations.py.
 
-    tests/explore_at_random.py [--program PROGRAM] [--seed N] [--count N]
+    tests/explore_at_random.py [--program PROGRAM] [--seed N] [--count N | --only NUMBER]
 
 A round is a program of some steps in two goroutines or three, now and then with a limit on events. How many runs there are, of each
 variable in how many it has a race, and of each end how many have it, has to be the same; and `gorace race` by the picks of each line
@@ -10,11 +10,8 @@ the runs in which no independent neighbours are turned; with as many skipped, th
 differs is printed with the input.
 The last line is `N passed, M failed`."""
 
-import argparse
-import os
 import random
 import re
-import subprocess
 import sys
 from collections import Counter
 from concurrent.futures import ProcessPoolExecutor
@@ -22,7 +19,8 @@ from functools import partial
 
 import explorations
 import graph
-from at_random import PROGRAM, Gorace, Wrong
+from at_random import Gorace, Wrong, failure
+from common import alone, processors, rounds
 
 USUAL = 500
 MOST = 3000
@@ -134,8 +132,8 @@ def round_of(number, program, seed):
     seen = Counter()
     try:
         compare(Gorace(program), seed, number, seen)
-    except (Wrong, subprocess.TimeoutExpired) as wrong:
-        return seen, f"FAILED round {number} of seed {seed}: {wrong}"
+    except Wrong as wrong:
+        return seen, failure(seed, number, wrong)
     return seen, ""
 
 
@@ -148,24 +146,17 @@ def missed(seen, count):
 
 
 def main():
-    parser = argparse.ArgumentParser(description=__doc__, formatter_class=argparse.RawDescriptionHelpFormatter)
-    parser.add_argument("--program", default=PROGRAM)
-    parser.add_argument("--seed", type=int, default=1)
-    parser.add_argument("--count", type=int, default=USUAL)
-    given = parser.parse_args()
-    path = os.path.realpath(given.program)
-    if not os.access(path, os.X_OK):
-        sys.exit(f"tests/explore_at_random.py: {path} can't be run: build it by ./gorace, or name another by --program")
-    with ProcessPoolExecutor(os.cpu_count()) as pool:
-        rounds = [*pool.map(partial(round_of, program=path, seed=given.seed), range(given.count), chunksize=8)]
-    seen = sum((it for it, _ in rounds), Counter())
-    failed = [wrong for _, wrong in rounds if wrong]
-    failed += [f"FAILED: {it}" for it in missed(seen, given.count) if not failed]
+    program, seed, numbers = rounds(__doc__, USUAL)
+    with ProcessPoolExecutor(processors()) as pool:
+        done = [*pool.map(partial(round_of, program=program, seed=seed), numbers, chunksize=8)]
+    seen = sum((it for it, _ in done), Counter())
+    failed = [wrong for _, wrong in done if wrong]
+    failed += [f"FAILED: {it}\n{alone('--seed', seed, '--count', len(numbers))}" for it in missed(seen, len(numbers)) if not failed]
     for wrong in failed:
         print(wrong)
-    print(f"{seen['runs']} runs of {given.count} programs, {seen['judged']} of them judged with --reduce: {seen['some racy']} with a race in some runs")
+    print(f"{seen['runs']} runs of {len(numbers)} programs, {seen['judged']} of them judged with --reduce: {seen['some racy']} with a race in some runs")
     print(f"and not in others, {seen['clean']} clean")
-    print(f"{given.count - len(failed)} passed, {len(failed)} failed")
+    print(f"{len(numbers) - len(failed)} passed, {len(failed)} failed")
     return 1 if failed else 0
 
 

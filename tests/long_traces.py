@@ -1,20 +1,20 @@
 #!/usr/bin/env python3
 """Checks long traces, which several threads read side by side, against reports that are known as they are made.
 
-    tests/long_traces.py [--program PROGRAM] [--seed N] [--count N]
+    tests/long_traces.py [--program PROGRAM] [--seed N] [--count N | --only NUMBER]
 
 Goroutines write variables under one mutex, send to each other, and meet. Now and then two of them write a variable without
 the mutex, one right after the other: these are the races. Some traces have a faulty line. Each is read from a file, since a
 pipe gives too few bytes at a time for several threads. The last line is `N passed, M failed`."""
 
-import argparse
-import os
 import random
 import subprocess
 import sys
 import tempfile
 
-PROGRAM = os.path.join(os.path.dirname(__file__), "../crates/gorace/out/gorace")
+from common import NO_END, SECONDS, alone, rounds
+
+USUAL = 40
 THREADS = (1, 2, 3, 4, 64)
 BLOCKS = (1000, 65536)
 GUARDED = [f"guarded_{it}" for it in range(40)]
@@ -94,6 +94,16 @@ def made(chance):
     return ("\n".join(lines) + "\n").encode(), (told, status)
 
 
+def told_of(line, file):
+    """Returns the report on the file and its status, or that there is none."""
+    with open(file, "rb") as given:
+        try:
+            it = subprocess.run(line, stdin=given, capture_output=True, timeout=SECONDS)
+        except subprocess.TimeoutExpired:
+            return NO_END, None
+    return it.stdout.decode(), it.returncode
+
+
 def wrong_in(program, text, wanted):
     """Returns with how many threads the report is another one, as words; nothing where there is none."""
     with tempfile.NamedTemporaryFile() as file:
@@ -101,27 +111,22 @@ def wrong_in(program, text, wanted):
         file.flush()
         for threads in THREADS:
             for block in BLOCKS:
-                line = [program, "check", "--shards", str(threads), "--block", str(block)]
-                with open(file.name, "rb") as given:
-                    it = subprocess.run(line, stdin=given, capture_output=True, timeout=120)
-                if (it.stdout.decode(), it.returncode) != wanted:
-                    return f"{' '.join(line[1:])}: {it.stdout.decode()[:300]}status {it.returncode}, wanted {wanted[0][:300]}status {wanted[1]}"
+                line = ["check", "--shards", str(threads), "--block", str(block)]
+                told = told_of([program, *line], file.name)
+                if told != wanted:
+                    return f"gorace {' '.join(line)}\n-- told --\n{told[0][:300]}\nstatus {told[1]}\n-- wanted --\n{wanted[0][:300]}\nstatus {wanted[1]}"
     return ""
 
 
 def main():
-    parser = argparse.ArgumentParser(description=__doc__, formatter_class=argparse.RawDescriptionHelpFormatter)
-    parser.add_argument("--program", default=PROGRAM)
-    parser.add_argument("--seed", type=int, default=1)
-    parser.add_argument("--count", type=int, default=40)
-    given = parser.parse_args()
-    program, failed = os.path.realpath(given.program), 0
-    for number in range(given.count):
-        text, wanted = made(random.Random(f"{given.seed} {number}"))
+    program, seed, numbers = rounds(__doc__, USUAL)
+    failed = 0
+    for number in numbers:
+        text, wanted = made(random.Random(f"{seed} {number}"))
         if wrong := wrong_in(program, text, wanted):
             failed += 1
-            print(f"FAILED trace {number} of seed {given.seed}, {len(text)} bytes: {wrong}")
-    print(f"{given.count - failed} passed, {failed} failed")
+            print(f"FAILED trace {number} of seed {seed}, {len(text)} bytes: {wrong}\n{alone('--seed', seed, '--only', number)}")
+    print(f"{len(numbers) - failed} passed, {failed} failed")
     return 1 if failed else 0
 
 

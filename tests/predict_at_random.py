@@ -1,18 +1,15 @@
 #!/usr/bin/env python3
 """Compares what `gorace predict` says of small random traces with all other runs of their goroutines, by tests/predictions.py.
 
-    tests/predict_at_random.py [--program PROGRAM] [--seed N] [--count N]
+    tests/predict_at_random.py [--program PROGRAM] [--seed N] [--count N | --only NUMBER]
 
 A round is a trace, of which predictions are asked for in the recorded order and with --turned. Each has to be one of those that
 exist, and its certificate such a run, in which `gorace check` sees the race; on each other name there is `no such race`. In most
 rounds values differ, and a try fails only at a lock that is locked: of these the shares that were found are told. In some the trace
 is longer, and only certificates are looked at. What differs is printed with the input. The last line is `N passed, M failed`."""
 
-import argparse
-import os
 import random
 import re
-import subprocess
 import sys
 from collections import Counter
 from concurrent.futures import ProcessPoolExecutor
@@ -21,7 +18,8 @@ from functools import partial
 import graph
 import predictions
 import random_traces
-from at_random import PROGRAM, Gorace, Wrong
+from at_random import Gorace, Wrong, failure
+from common import alone, processors, rounds
 
 USUAL = 1200
 SMALL = 12
@@ -103,8 +101,8 @@ def round_of(number, program, seed):
     seen = Counter()
     try:
         compare(Gorace(program), seed, number, seen)
-    except (Wrong, subprocess.TimeoutExpired) as wrong:
-        return seen, f"FAILED round {number} of seed {seed}: {wrong}"
+    except Wrong as wrong:
+        return seen, failure(seed, number, wrong)
     return seen, ""
 
 
@@ -119,24 +117,17 @@ def missed(seen, count):
 
 
 def main():
-    parser = argparse.ArgumentParser(description=__doc__, formatter_class=argparse.RawDescriptionHelpFormatter)
-    parser.add_argument("--program", default=PROGRAM)
-    parser.add_argument("--seed", type=int, default=1)
-    parser.add_argument("--count", type=int, default=USUAL)
-    given = parser.parse_args()
-    program = os.path.realpath(given.program)
-    if not os.access(program, os.X_OK):
-        sys.exit(f"tests/predict_at_random.py: {program} can't be run: build it by ./gorace, or name another by --program")
-    with ProcessPoolExecutor(os.cpu_count()) as pool:
-        rounds = [*pool.map(partial(round_of, program=program, seed=given.seed), range(given.count), chunksize=8)]
-    seen = sum((it for it, _ in rounds), Counter())
-    failed = [wrong for _, wrong in rounds if wrong]
-    failed += [f"FAILED: {it}" for it in missed(seen, given.count) if not failed]
+    program, seed, numbers = rounds(__doc__, USUAL)
+    with ProcessPoolExecutor(processors()) as pool:
+        done = [*pool.map(partial(round_of, program=program, seed=seed), numbers, chunksize=8)]
+    seen = sum((it for it, _ in done), Counter())
+    failed = [wrong for _, wrong in done if wrong]
+    failed += [f"FAILED: {it}\n{alone('--seed', seed, '--count', len(numbers))}" for it in missed(seen, len(numbers)) if not failed]
     for wrong in failed:
         print(wrong)
     shares = ", ".join(f"{way} {seen[way]} ({seen[way] / max(1, seen['exist']):.1%})" for way in WAYS)
     print(f"of {seen['exist']} variables on which another run has a race, {seen['in order']} in the recorded order, were found: {shares}")
-    print(f"{given.count - len(failed)} passed, {len(failed)} failed")
+    print(f"{len(numbers) - len(failed)} passed, {len(failed)} failed")
     return 1 if failed else 0
 
 

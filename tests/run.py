@@ -3,22 +3,21 @@
 
     tests/run.py [--program PROGRAM] [--update] [WORD..]
 
-A WORD picks the cases whose file or name has it. --update writes down what the program does now: read the difference before
+A WORD picks the cases whose file or name has it; one that nothing has is refused. --update writes down what the program does now: read the difference before
 you commit it. How a case is written: tests/cases.py. The last line is `N passed, M failed`."""
 
 import argparse
 import difflib
 import itertools
-import os
 import shlex
 import subprocess
 import sys
 import xml.etree.ElementTree
 from concurrent.futures import ThreadPoolExecutor
 
-from cases import HERE, BadCase, all_cases
+from cases import BadCase, all_cases
+from common import NO_END, PROGRAM, SECONDS, alone, processors, runnable
 
-SECONDS = 120
 WIDEST = 100
 
 
@@ -64,12 +63,12 @@ def tried(program, case):
         try:
             did = ran(program, line, given, case.shell)
         except subprocess.TimeoutExpired:
-            did = b"", b"", f"none within {SECONDS} s"
+            did = None
         first = first or did
-        wrong = wrong_in(case, *did)
+        wrong = wrong_in(case, *did) if did else [NO_END]
         if wrong and not told:
             of_bytes = f" of {len(given)} bytes" if len(case.inputs) > 1 else ""
-            told = [f"FAILED {case.label}: gorace {shlex.join(line)}{of_bytes}", *wrong]
+            told = [f"FAILED {case.label}: gorace {shlex.join(line)}{of_bytes}", *wrong, alone(case.label)]
     return told, first
 
 
@@ -90,7 +89,7 @@ def update(file, done):
 
 def options():
     parser = argparse.ArgumentParser(description=__doc__, formatter_class=argparse.RawDescriptionHelpFormatter)
-    parser.add_argument("--program", default=HERE.parent / "crates/gorace/out/gorace")
+    parser.add_argument("--program", default=PROGRAM)
     parser.add_argument("--update", action="store_true")
     parser.add_argument("words", nargs="*", metavar="WORD")
     return parser.parse_args()
@@ -98,14 +97,12 @@ def options():
 
 def main():
     given = options()
-    program = os.path.realpath(given.program)
-    if not os.access(program, os.X_OK):
-        sys.exit(f"tests/run.py: {program} can't be run: build it by ./gorace, or name another by --program")
+    program = runnable(given.program)
     try:
         cases = all_cases(given.words)
     except BadCase as fault:
         sys.exit(f"tests/run.py: {fault}")
-    with ThreadPoolExecutor(os.cpu_count()) as pool:
+    with ThreadPoolExecutor(processors()) as pool:
         done = [*pool.map(lambda case: tried(program, case), cases)]
     if given.update:
         for file in {case.file for case in cases}:

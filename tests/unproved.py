@@ -4,7 +4,7 @@
 
     tests/unproved.py [WORD..]
 
-It stops at an index out of bounds, an overflow or a bad access too. Left out are long inputs, help texts, what comes on standard
+A WORD picks cases as for tests/run.py. It stops at an index out of bounds, an overflow or a bad access too. Left out are long inputs, help texts, what comes on standard
 error and what a shell does, which tests/run.py has by the built program."""
 
 import os
@@ -15,10 +15,10 @@ import sys
 import tempfile
 
 from cases import HERE, BadCase, all_cases
+from common import NO_END, SECONDS, alone
 
 ROOT = HERE.parent
 LONGEST = 4096
-SECONDS = 300
 WITHOUT = shutil.ignore_patterns("out", "proofs", "must-fail", "wrong")
 MARKS = {10: "\\n", 9: "\\t", 13: "\\r", 34: '\\"', 92: "\\\\"}
 # A constant has at most 140,000 expressions, of which each byte of a text is one.
@@ -84,19 +84,34 @@ def write_crate(room, rows):
     return folder
 
 
+def tried(rows):
+    """Returns how `rt try` ended over the tables of these rows, and what it printed."""
+    with tempfile.TemporaryDirectory() as room:
+        command = ["rt", "try", "--test", "--steps", "1", "--seconds", str(SECONDS)]
+        folder = write_crate(room, rows)
+        it = subprocess.run(command, cwd=folder, stdout=subprocess.PIPE, stderr=subprocess.STDOUT, text=True, errors="replace")
+    return it.returncode, re.sub(r"(?m)^test result: .*\n", "", it.stdout)
+
+
 def main(words):
     try:
-        rows = [it for case in all_cases(words) for it in rows_of(case)]
+        cases = all_cases(words)
     except BadCase as fault:
         sys.exit(f"tests/unproved.py: {fault}")
-    with tempfile.TemporaryDirectory() as room:
-        folder = write_crate(room, rows)
-        command = ["rt", "try", "--test", "--steps", "1", "--seconds", str(SECONDS)]
-        ran = subprocess.run(command, cwd=folder, stdout=subprocess.PIPE, stderr=subprocess.STDOUT, errors="replace")
-    if ran.returncode:
-        print(re.sub(r"(?m)^test result: .*\n", "", ran.stdout))
-    print(f"{len(rows)} passed, 0 failed" if ran.returncode == 0 else "0 passed, 1 failed: the first that is not as expected, above")
-    return 1 if ran.returncode else 0
+    rows = [it for case in cases for it in rows_of(case)]
+    if not rows:
+        sys.exit(f"tests/unproved.py: of {' '.join(words)} it can try none: tests/run.py does, by the built program")
+    status, told = tried(rows)
+    if status == 0:
+        print(f"{len(rows)} passed, 0 failed")
+        return 0
+    print(told)
+    if "no-answer: the program did not end within the time limit" in told:
+        print(NO_END)
+    for label in dict.fromkeys(case.label for case in cases if f"{case.label}, line " in told):
+        print(alone(label))
+    print("0 passed, 1 failed: the first that is not as expected, above")
+    return 1
 
 
 if __name__ == "__main__":

@@ -22,7 +22,7 @@ func askUnproved(t *testing.T, command string, traces map[string]string) map[str
 		}
 	}
 	// The interpreter, which rt try runs too, can't run a program with arguments: one step ends it.
-	cmd := exec.Command("rt", append([]string{"try", "--steps", "1", "--cases", dir, "--"}, strings.Fields(command)...)...)
+	cmd := exec.Command("rt", append([]string{"try", "--steps", "1", "--seconds", "1800", "--cases", dir, "--"}, strings.Fields(command)...)...)
 	cmd.Dir = root + "/../crates/gorace"
 	out, err := cmd.Output()
 	if _, ended := err.(*exec.ExitError); err != nil && !ended {

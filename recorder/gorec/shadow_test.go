@@ -76,7 +76,7 @@ func TestWordsShown(t *testing.T) {
 	}()
 	select {
 	case <-done:
-	case <-time.After(10 * time.Second):
+	case <-time.After(10 * time.Minute):
 		t.Error("a read waits for a lock")
 	}
 	unlockAll()

@@ -362,10 +362,8 @@ fn engines(rt: HostRuntime) {
 
 // A thread that reads and one that judges grow at one time, in no order that is always the same: so which growth is refused
 // isn't known, and how often differs.
-static BESIDE: [Row; 6] = [
-    Row(Engine::CheckPieces(TRACE, 2), CHECKED),
+static BESIDE: [Row; 4] = [
     Row(Engine::CheckPieces(TRACE, 3), CHECKED),
-    Row(Engine::CheckRounds(3), CHECKED),
     Row(Engine::CheckRounds(4), CHECKED),
     Row(Engine::CheckPieces(FAULTY, 1), FAULT),
     Row(Engine::CheckPieces(FAULTY, 2), FAULT),

@@ -97,11 +97,11 @@ def options():
 
 def main():
     given = options()
-    program = runnable(given.program)
     try:
         cases = all_cases(given.words)
     except BadCase as fault:
         sys.exit(f"tests/run.py: {fault}")
+    program = runnable(given.program)
     with ThreadPoolExecutor(processors()) as pool:
         done = [*pool.map(lambda case: tried(program, case), cases)]
     if given.update:

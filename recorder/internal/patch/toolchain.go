@@ -1,0 +1,89 @@
+package patch
+
+import (
+	"bytes"
+	"encoding/json"
+	"fmt"
+	"os/exec"
+	"regexp"
+	"strconv"
+	"strings"
+)
+
+// A Toolchain is an installed Go, as `go env` describes it for a build.
+type Toolchain struct {
+	Root    string // GOROOT
+	Version string // GOVERSION, as go1.19.8
+	OS      string // GOOS of what it builds
+	Arch    string // GOARCH of what it builds
+}
+
+// supported lists the minor versions of Go 1 that the recorder's suites have passed.
+var supported = []int{19, 21, 22, 23, 24, 25, 26, 27}
+
+// Find asks the go command which Go it is. It runs in dir with env, or with this process's environment if env is nil.
+func Find(command, dir string, env []string) (Toolchain, error) {
+	c := exec.Command(command, "env", "-json", "GOROOT", "GOVERSION", "GOOS", "GOARCH")
+	c.Dir, c.Env = dir, env
+	var complaint bytes.Buffer
+	c.Stderr = &complaint
+	out, err := c.Output()
+	if err != nil {
+		return Toolchain{}, fmt.Errorf("%s env: %w: %s", command, err, strings.TrimSpace(complaint.String()))
+	}
+	var said struct{ GOROOT, GOVERSION, GOOS, GOARCH string }
+	if err := json.Unmarshal(out, &said); err != nil {
+		return Toolchain{}, fmt.Errorf("%s env: %w", command, err)
+	}
+	return Toolchain{Root: said.GOROOT, Version: said.GOVERSION, OS: said.GOOS, Arch: said.GOARCH}, nil
+}
+
+var release = regexp.MustCompile(`^go1\.(\d+)(\.\d+)?([ -].*)?$`)
+
+// minor is the n of Go 1.n, or why gorec doesn't record programs of this Go.
+func (t Toolchain) minor() (int, error) {
+	if t.OS != "linux" || t.Arch != "amd64" {
+		return 0, fmt.Errorf("gorec records programs for linux/amd64 only, and this is for %s/%s", t.OS, t.Arch)
+	}
+	if m := release.FindStringSubmatch(t.Version); m != nil {
+		n, err := strconv.Atoi(m[1])
+		if err == nil && isSupported(n) {
+			return n, nil
+		}
+	}
+	return 0, fmt.Errorf("gorec doesn't record programs of %s, only of %s: another version has to be taken up first (%s)",
+		t.Version, supportedVersions(), guide)
+}
+
+func isSupported(minor int) bool {
+	for _, n := range supported {
+		if n == minor {
+			return true
+		}
+	}
+	return false
+}
+
+// supportedVersions names the supported versions with runs joined, as "go1.19 and go1.21 to go1.27".
+func supportedVersions() string {
+	var runs []string
+	for i := 0; i < len(supported); {
+		j := i
+		for j+1 < len(supported) && supported[j+1] == supported[j]+1 {
+			j++
+		}
+		run := fmt.Sprintf("go1.%d", supported[i])
+		if j > i {
+			run += fmt.Sprintf(" to go1.%d", supported[j])
+		}
+		runs = append(runs, run)
+		i = j + 1
+	}
+	if n := len(runs) - 1; n > 0 {
+		return strings.Join(runs[:n], ", ") + " and " + runs[n]
+	}
+	return runs[0]
+}
+
+// guide says where a reader finds how a version is taken up.
+const guide = `see "A new version of Go" in CONTRIBUTING.md`

@@ -1,0 +1,96 @@
+package symbols
+
+import (
+	"os"
+	"path/filepath"
+	"runtime"
+	"strings"
+	"testing"
+)
+
+// TestWithoutDebug: without debugging information and symbols there are functions, lines, inlined calls and types.
+func TestWithoutDebug(t *testing.T) {
+	command := filepath.Join(runtime.GOROOT(), "bin", "go")
+	whole := openBuilt(t, command, "names", nil)
+	if !whole.HasDebug() {
+		t.Errorf("the whole program has no debugging information")
+	}
+	for _, flags := range []string{"-w", "-s -w", "-compressdwarf=false"} {
+		p := openBuilt(t, command, "names", []string{"-ldflags=" + flags})
+		if p.HasDebug() != strings.Contains(flags, "dwarf") {
+			t.Errorf("%s: has debugging information: %v", flags, p.HasDebug())
+		}
+		for i := 0; i < whole.lines.count; i++ {
+			f, _ := whole.lines.function(i)
+			for _, pc := range []uint64{f.entry + 1, f.entry + 40, f.entry + 170} {
+				got, want := p.Frames(pc), whole.Frames(pc)
+				if !equalFrames(got, want) {
+					t.Fatalf("%s: %#x: got %v, want %v", flags, pc, got, want)
+				}
+			}
+		}
+		typ := typeNamed(whole, "main.account")
+		got := p.TypeAt(offsetOf(whole, typ))
+		if got == nil || got.Name != "main.account" || p.Part(got, 64, typ.Size).Path != ".limits.high" {
+			t.Errorf("%s: the type is %v", flags, got)
+		}
+	}
+}
+
+func equalFrames(a, b []Frame) bool {
+	if len(a) != len(b) {
+		return false
+	}
+	for i := range a {
+		if a[i] != b[i] {
+			return false
+		}
+	}
+	return true
+}
+
+// TestAnywhere: a program that may lie anywhere tells the same, once it is known where it lies.
+func TestAnywhere(t *testing.T) {
+	p := openBuilt(t, filepath.Join(runtime.GOROOT(), "bin", "go"), "names", []string{"-buildmode=pie"})
+	const far = 0x55d0c0000000
+	p.Relocate(p.lines.text + far)
+	frames := framesOf(p, "main", "main.go")
+	if len(frames) < 50 {
+		t.Errorf("%d lines", len(frames))
+	}
+	f, ok := p.lines.find(uint64(p.entryOf(t, "main.main")))
+	if !ok {
+		t.Fatal("no function main.main")
+	}
+	if fs := p.Frames(f.entry + far + 1); len(fs) != 1 || fs[0].Function != "main.main" {
+		t.Errorf("got %v", fs)
+	}
+	if fs := p.Frames(f.entry + 1); len(fs) != 0 {
+		t.Errorf("got %v where it doesn't lie", fs)
+	}
+	o := objectNamed(p, "main.settings")
+	if v, ok := p.Global(o.low + far + 24); !ok || v.Name != "settings.names[1]" || v.Begin != o.low+far+24 {
+		t.Errorf("got %v", v)
+	}
+	typ := typeNamed(p, "main.account")
+	if got := p.Part(p.TypeAt(offsetOf(p, typ)), 112, typ.Size).Path; got != ".when" {
+		t.Errorf("got %s", got)
+	}
+}
+
+func TestOpenRefuses(t *testing.T) {
+	dir := t.TempDir()
+	text := filepath.Join(dir, "text")
+	if err := os.WriteFile(text, []byte("no program"), 0o644); err != nil {
+		t.Fatal(err)
+	}
+	empty := filepath.Join(dir, "empty")
+	if err := os.WriteFile(empty, nil, 0o644); err != nil {
+		t.Fatal(err)
+	}
+	for _, path := range []string{text, empty, filepath.Join(dir, "none")} {
+		if _, err := Open(path); err == nil || !strings.Contains(err.Error(), filepath.Base(path)) {
+			t.Errorf("%s: got %v", path, err)
+		}
+	}
+}

@@ -1,37 +1,9 @@
-// Package wire has the records of a log: what a recorded program leaves behind, and what
-// the tool makes a trace of. The log is a file that is mapped into memory, so it is whole
-// up to its last record however the program ends.
+// Package wire has the records that the tool makes a trace of, one for each thing that a goroutine did, or that was met for the
+// first time.
 package wire
-
-// Size is that of a record, and of a log's header, in bytes.
-const Size = 32
-
-// Magic is the first word of a log.
-const Magic = 0x676f7265632d3036 // "gorec-06"
 
 // Newest is the newest version of a trace.
 const Newest = 2
-
-// Header stands in front of a log's records.
-type Header struct {
-	Magic     uint64
-	Records   uint32 // so many were handed out; of them those are there that have an Op
-	Variables uint32 // so many were met, most of them without a record
-	Next      uint32 // a Successor
-	Judged    uint32 // 1: who reads the log has done with it
-	Forgotten uint32 // so many that one goroutine alone had used were forgotten
-	Version   uint8  // of the trace that the log is for: in one for version 1 there is no TryFail
-	_         [3]byte
-}
-
-// Successor says whether a run goes on in another log, so that this one is whole.
-type Successor uint32
-
-const (
-	NoSuccessor    Successor = iota
-	AfterRecords             // since there was no room for more records
-	AfterVariables           // since as many variables were met as may be in one log
-)
 
 // Record is one thing that a goroutine did, or one thing that was met for the first time.
 type Record struct {
@@ -40,37 +12,31 @@ type Record struct {
 	Site      uint32 // where in the source; sites are numbered over all packages
 	OtherSite uint32 // of a meet: where the receiver stands; of a go or an access: the number of its stack
 	Goroutine uint32 // 0 is main
-	Other     uint32 // of a go: who is started; of a meet: the receiver; of an access: below
+	Other     uint32 // of a go: who is started; of a meet: the receiver
 	Op        Op
 	Kind      uint8
 	Count     uint16
 }
 
-// MostOfRun is the most that the Other of an access is.
-const MostOfRun = 1 << 10
-
 // Op says what a record is.
 type Op uint8
 
-// The fields that a record has beside Goroutine and Site are listed after its Op. The records
-// are in the order in which the operations were done, but for those of variables: such a one
-// was done after as many others as its Value says. The Count of a Read or a Write is 0, or has
-// a bit for each byte of the variable that it is about; where Other isn't 0, so many variables with
-// the next numbers after Object are accessed too.
+// The fields that a record has beside Goroutine and Site are listed after its Op. The records are in the order in which the
+// operations were done.
 const (
 	None            Op = iota // nothing was written here
-	DeclareVar                // Object, Value; OtherSite: the offset in what the site names; Kind: a VarKind
+	DeclareVar                // Object; Kind: a VarKind
 	DeclareChan               // Object; Value: the capacity
 	DeclareLock               // Object; Kind 1: an rwmutex
 	DeclareOnce               // Object
 	Go                        // Other; Kind: a GoKind
 	Exit                      //
-	Read                      // Object, Value, Count, Other
-	Write                     // Object, Value, Count, Other
+	Read                      // Object
+	Write                     // Object
 	AtomicRead                // Object
 	AtomicWrite               // Object
-	Send                      // Object, Value: the number of the send
-	Receive                   // Object, Value: the number of the receive
+	Send                      // Object, Value: the number of the send; Kind: WithElement or 0
+	Receive                   // Object, Value: the number of the receive; Kind: as of a Send
 	Meet                      // Other, OtherSite, Object, Value
 	ReceiveClosed             // Object
 	Close                     // Object
@@ -92,10 +58,11 @@ const (
 	FaultClose                // Object, 0 for nil
 	FaultUnlock               // Object
 	FaultReadUnlock           // Object
-	Unseen                    // Object, Value: a read found what no recorded write wrote
-	Lost                      // Kind: a Loss
-	Full                      // no room for more records; Kind: a FullKind
 )
+
+// WithElement is the Kind of a Send or a Receive whose Other and OtherSite are the low and the high half of what was
+// sent. Without it the number stands for that.
+const WithElement = 1
 
 // GoKind is how a goroutine was started.
 type GoKind uint8
@@ -116,25 +83,4 @@ const (
 	VarMap             // what a map holds
 	VarGroup           // a WaitGroup's first Add against its first Wait
 	VarContent         // what an object of the standard library holds
-)
-
-// FullKind is where there is no room.
-type FullKind uint8
-
-// The kinds of a Full.
-const (
-	FullLog FullKind = iota
-	FullDisk
-)
-
-// Loss is what a Lost has met.
-type Loss uint8
-
-// The kinds of a Lost.
-const (
-	_             Loss = iota
-	LostGoroutine      // a goroutine that code without the recorder started
-	LostChannel        // a channel that code without the recorder uses
-	LostLocker         // a Locker of a type that isn't recorded
-	Losses             // the number of losses
 )

@@ -5,185 +5,133 @@ import (
 	"flag"
 	"fmt"
 	"os"
+	"os/exec"
 	"path/filepath"
 	"strings"
 
-	"gorace.local/recorder/internal/instrument"
-	"gorace.local/recorder/internal/load"
 	"gorace.local/recorder/internal/process"
 )
 
-// building are the flags by which programs are built.
-type building struct {
-	force              bool
-	tags, mod, modfile string
+// A builder builds programs with the hooks.
+type builder struct {
+	keeper *process.Keeper
+	tool   *toolchain
+	flags  []string // of the command go, those that gorec adds to
+	others []string // the user's, as they are
+	env    []string // nil for gorec's own
+	folder string   // for what isn't kept
 }
 
-func (b *building) define(flags *flag.FlagSet) {
-	flags.BoolVar(&b.force, "force", false, "go on without what can't be recorded")
-	flags.StringVar(&b.tags, "tags", "", "build with these `tags`, with commas between them")
-	flags.StringVar(&b.mod, "mod", "", "the `mode` of modules, as for go build: readonly, vendor or mod")
-	flags.StringVar(&b.modfile, "modfile", "", "use this `file` in place of go.mod")
-}
-
-// listFlags are those for go list.
-func (b *building) listFlags() []string {
-	words := b.buildFlags()
-	if b.mod != "" {
-		words = append(words, "-mod="+b.mod)
-	}
-	if b.modfile != "" {
-		words = append(words, "-modfile="+b.modfile)
-	}
-	return words
-}
-
-// buildFlags are those for the build of a copy, which has no modules.
-func (b *building) buildFlags() []string {
-	if b.tags == "" {
-		return nil
-	}
-	return []string{"-tags=" + b.tags}
-}
-
-// instrument writes copies of the packages that are named, and of what they import beside the library,
-// with the recorder's calls, to dir.
-func (b *building) instrument(k *process.Keeper, args []string, dir string, tests bool) (*instrument.Copy, error) {
-	set, err := load.Packages(load.Query{Args: args, Flags: b.listFlags(), Tests: tests, Run: k.Run})
+// newBuilder finds the Go of this folder, and what its builds need.
+func newBuilder(k *process.Keeper, user *goFlags, folder string) (*builder, error) {
+	tool, err := findToolchain()
 	if err != nil {
 		return nil, err
 	}
-	if note := untried(set.System, set.Toolchain); note != "" {
-		fmt.Fprintln(os.Stderr, "gorec: "+note)
+	all := &goFlags{}
+	if err := all.takeEnvironment(tool.GOFLAGS); err != nil {
+		return nil, err
 	}
-	base, err := os.Getwd()
+	all.add(user)
+	hooks, err := tool.hooks(folder)
 	if err != nil {
 		return nil, err
 	}
-	if dir, err = filepath.Abs(dir); err != nil {
-		return nil, err
-	}
-	copied, err := instrument.Packages(set, base, dir, b.buildFlags())
+	dir, err := os.Getwd()
 	if err != nil {
 		return nil, err
 	}
-	for _, line := range copied.Notes {
-		fmt.Fprintln(os.Stderr, "gorec: "+line)
+	b := &builder{keeper: k, tool: tool, others: all.others, folder: folder}
+	if b.flags, err = all.merged(hooks, dir); err != nil {
+		return nil, err
 	}
-	return copied, nil
+	if tool.lacksC() {
+		b.env = append(os.Environ(), "CGO_ENABLED=0")
+	}
+	return b, nil
 }
 
-// single is the only program of a copy, unless it can't be recorded.
-func (b *building) single(copied *instrument.Copy, args []string, tests bool) (*instrument.Program, error) {
-	named := strings.Join(args, " ")
+// goCommand is the command go, with gorec's flags in front of the user's and of other words.
+func (b *builder) goCommand(words, others []string) *exec.Cmd {
+	var all []string
+	for _, list := range [][]string{words[:1], b.flags, words[1:], b.others, others} {
+		all = append(all, list...)
+	}
+	cmd := exec.Command("go", all...)
+	cmd.Stdin, cmd.Stdout, cmd.Stderr = os.Stdin, os.Stdout, os.Stderr
+	cmd.Env = b.env
+	return cmd
+}
+
+// program builds the program that is named, and answers its file.
+func (b *builder) program(named []string) (string, error) {
+	folder := filepath.Join(b.folder, "program")
+	if err := os.Mkdir(folder, 0o755); err != nil {
+		return "", err
+	}
+	if err := b.keeper.Run(b.goCommand([]string{"build", "-o", folder + string(filepath.Separator)}, named)); err != nil {
+		return "", fmt.Errorf("nothing was run: go build: %w", err)
+	}
+	built, err := os.ReadDir(folder)
 	switch {
-	case len(copied.Programs) == 0 && tests:
-		return nil, errors.New("there are no packages in " + named)
-	case len(copied.Programs) == 0:
-		return nil, errors.New("there is no package main in " + named)
-	case len(copied.Programs) > 1:
-		return nil, fmt.Errorf("%s and %s are programs both; name one", copied.Programs[0].ImportPath, copied.Programs[1].ImportPath)
+	case err != nil:
+		return "", err
+	case len(built) == 0:
+		return "", errors.New("there is no package main in " + strings.Join(named, " "))
+	case len(built) > 1:
+		return "", fmt.Errorf("%s and %s are programs both; name one", built[0].Name(), built[1].Name())
 	}
-	p := copied.Programs[0]
-	switch {
-	case tests && p.Broken != "":
-		return nil, fmt.Errorf("%s: %s", p.ImportPath, p.Broken)
-	case tests && !p.HasTests:
-		return nil, errors.New("there are no test files in " + named)
-	case p.Standard:
-		return nil, errStandard(p)
-	}
-	return p, b.refuse(p)
-}
-
-// errStandard is why a program of the standard library isn't run.
-func errStandard(p *instrument.Program) error {
-	return fmt.Errorf("nothing of %s can be recorded: it is in the standard library", p.ImportPath)
-}
-
-// refuse tells what can't be recorded of a program, which then isn't run.
-func (b *building) refuse(p *instrument.Program) error {
-	for _, line := range p.Refused {
-		fmt.Fprintln(os.Stderr, "gorec: "+line)
-	}
-	if n := len(p.Refused); n > 0 && !b.force {
-		return fmt.Errorf("nothing was run: %s can't be recorded (-force goes on without)", places(n))
-	}
-	return nil
-}
-
-func places(n int) string {
-	if n == 1 {
-		return "one place"
-	}
-	return fmt.Sprintf("%d places", n)
+	return filepath.Join(folder, built[0].Name()), nil
 }
 
 var buildCommand = command{
-	name:  "build",
+	name: "build", takesWords: true,
 	words: "[flags] -o PROGRAM PACKAGE",
-	about: "builds a program to be run elsewhere, and PROGRAM.sites beside it",
-	more: `A program that was built writes its log to the file that GOREC_LOG names, for the version of a
-trace that GOREC_FORMAT says, with the seed that GOREC_SEED says. gorec trace makes its trace.
+	about: "builds a program to be run elsewhere",
+	more: `The program writes its log to the file that GOREC_LOG names. gorec trace makes its trace, and gorec exec runs it as
+gorec run does. Other flags are those of go build, with -tests those of go test.
 `,
 	prepare: func(flags *flag.FlagSet) func(*process.Keeper, []string) (int, error) {
-		var b building
-		b.define(flags)
 		out := flags.String("o", "", "the `file` to build")
 		tests := flags.Bool("tests", false, "build the package's tests")
 		return func(k *process.Keeper, args []string) (int, error) {
+			p := &wordParser{command: "build", own: flags, help: &goHelp{topics: []string{"build", "testflag"}}, args: args}
+			rest, err := p.parse()
 			switch {
-			case len(args) == 0:
+			case err != nil:
+				return 0, err
+			case len(rest) == 0:
 				return 0, noPackage("build")
 			case *out == "":
 				return 0, &usageError{"build", errors.New("-o has to name the program")}
 			}
-			return 0, b.buildTo(k, args, *out, *tests)
+			return buildTo(k, &p.flags, rest, *out, *tests)
 		}
 	},
+}
+
+// buildTo builds a program, or a package's tests, to a file.
+func buildTo(k *process.Keeper, flags *goFlags, named []string, out string, tests bool) (int, error) {
+	folder, err := newFolder()
+	if err != nil {
+		return 0, err
+	}
+	defer folder.remove()
+	b, err := newBuilder(k, flags, folder.path)
+	if err != nil {
+		return 0, err
+	}
+	words := []string{"build", "-o", out}
+	if tests {
+		words = []string{"test", "-c", "-o", out}
+	}
+	if err := k.Run(b.goCommand(words, named)); err != nil {
+		return 0, fmt.Errorf("nothing was built: go %s: %w", words[0], err)
+	}
+	return 0, nil
 }
 
 // noPackage is the mistake of those who name none.
 func noPackage(command string) error {
 	return &usageError{command, errors.New("no package was named; . is this folder")}
-}
-
-func (b *building) buildTo(k *process.Keeper, args []string, out string, tests bool) error {
-	dir, err := newFolder()
-	if err != nil {
-		return err
-	}
-	defer dir.remove()
-	copied, err := b.instrument(k, args, dir.path, tests)
-	if err != nil {
-		return err
-	}
-	p, err := b.single(copied, args, tests)
-	if err != nil {
-		return err
-	}
-	if out, err = filepath.Abs(out); err != nil {
-		return err
-	}
-	return p.Build(k.Run, out, tests)
-}
-
-var showCommand = command{
-	name:  "show",
-	words: "[flags] PACKAGE DIR",
-	about: "writes a program with the recorder's calls to DIR/src",
-	prepare: func(flags *flag.FlagSet) func(*process.Keeper, []string) (int, error) {
-		var b building
-		b.define(flags)
-		return func(k *process.Keeper, args []string) (int, error) {
-			if len(args) != 2 {
-				return 0, &usageError{"show", errors.New("a package and a folder have to be named")}
-			}
-			copied, err := b.instrument(k, args[:1], args[1], false)
-			if err == nil {
-				_, err = b.single(copied, args[:1], false)
-			}
-			return 0, err
-		}
-	},
 }

@@ -7,9 +7,9 @@ import (
 	"sync"
 )
 
-// An event is a line of -json. The last one of a package has its verdict.
+// An event is a line of -json. The last one has the verdict.
 type event struct {
-	Action  string // output; race, of one race; predicted, of one; pass, fail, skip, or racing, with the verdict
+	Action  string // output; race, of one race; predicted, of one; pass, fail or racing, with the verdict
 	Package string
 	Output  string    `json:",omitempty"`
 	Elapsed float64   `json:",omitempty"`
@@ -34,6 +34,7 @@ type toldPrediction struct {
 type toldAccess struct {
 	access
 	Change  bool         `json:",omitempty"` // the read stands for a change
+	Test    string       `json:",omitempty"` // that it belongs to
 	Behind  string       // what it held, and last synchronized by
 	Stack   []frame      `json:",omitempty"`
 	Started *startedFrom `json:",omitempty"` // unless it is main
@@ -56,7 +57,6 @@ type verdict struct {
 	Ended           string `json:",omitempty"` // how the program failed
 	Seed            string `json:",omitempty"`
 	Trace           string `json:",omitempty"` // the file
-	Told            string `json:",omitempty"` // why there is no trace
 }
 
 // eventWriter writes events; what is written to it is output.
@@ -71,12 +71,6 @@ func newEvents(to io.Writer, of string) *eventWriter {
 	e := json.NewEncoder(to)
 	e.SetEscapeHTML(false)
 	return &eventWriter{to: e, of: of}
-}
-
-// events is the writer of events that a program's output goes to, if it does.
-func events(w io.Writer) (*eventWriter, bool) {
-	e, is := w.(*eventWriter)
-	return e, is
 }
 
 // Write writes whole lines as output.
@@ -153,18 +147,9 @@ func (o *outcome) toldRace(r race) toldRace {
 // told is an access, with what is known of its goroutine.
 func (o *outcome) told(a access) toldAccess {
 	m := o.moments[a.Event]
-	t := toldAccess{access: a, Change: m.Change, Behind: m.String(), Stack: o.stacks[m.Stack]}
+	t := toldAccess{access: a, Change: m.Change, Test: o.testOf(a), Behind: m.String(), Stack: o.stacks[m.Stack]}
 	if s := lastBefore(o.summary.Starts[a.Goroutine], a.Event); s != nil {
 		t.Started = &startedFrom{s.By, s.Place, o.stacks[s.Stack]}
 	}
 	return t
-}
-
-// notRun tells of a package that wasn't run.
-func (e *eventWriter) notRun(isFailure bool, why string) {
-	action, status := "skip", 0
-	if isFailure {
-		action, status = "fail", unusable
-	}
-	e.write(event{Action: action, Verdict: &verdict{Status: status, Told: why}})
 }

@@ -6,7 +6,6 @@ import (
 	"strings"
 	"testing"
 
-	"gorace.local/recorder/internal/instrument"
 	"gorace.local/recorder/internal/trace"
 )
 
@@ -84,7 +83,7 @@ races: 3
 	}
 	var b strings.Builder
 	o.explain(&b)
-	tell(&b, o.summary, &instrument.Program{Missed: map[string]int{"flag.Var": 2}})
+	tell(&b, o.summary)
 	want := `pairs of places: 2
      2  read at a.go:9, write at a.go:3
      1  read at a.go:4, write at a.go:5
@@ -96,7 +95,6 @@ not in the trace, since one goroutine alone used each: own, mine
 g1 was started by main at a.go:1
 g1 was started by main at a.go:2
 g2 was started by code that isn't recorded, on behalf of g1
-gorec: not recorded is what these calls do with what their arguments point at: flag.Var (2 places)
 gorec: the trace is cut off after 21 events: more than 65,535 variables, at a.go:7
 `
 	if b.String() != want {

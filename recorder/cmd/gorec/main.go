@@ -1,12 +1,12 @@
 // Gorec records runs of Go programs as traces, and has gorace judge them. Nothing of it is
 // proved.
 //
-// run (run.go) has instrument (build.go) copy the program, and Build (internal/instrument) build
-// it. repeat (recording.go) calls once, whose recordAndJudge runs it by record, while follow
-// (segments.go) has judgePart judge each log of the run: judgeSegment writes a trace, and ask
-// (judge.go) runs gorace and prints its report, from which read (predicted.go) takes the predicted
-// lines. explain and tell (report.go), tellPredicted (predicted.go) and tellTrace (tracefile.go)
-// print the rest.
+// run (run.go) and test (tests.go) have a builder (build.go) find the Go of the folder, make the overlay with the hooks
+// (internal/patch), and run the command go; of tests that runs exec (exec.go). repeat (recording.go) calls once, whose
+// recordAndJudge runs the program by record, while follow (follow.go) reads its log along and has judgePart (segments.go) judge
+// each segment: judgeSegment writes a trace, and ask (judge.go) runs gorace and prints its report, from which read
+// (predicted.go) takes the predicted lines. explain and tell (report.go), tellPredicted (predicted.go) and tellTrace
+// (tracefile.go) print the rest.
 package main
 
 import (
@@ -37,11 +37,12 @@ const (
 // and ends with unusable.
 type command struct {
 	name, words, about, more string
+	takesWords               bool // it takes its words apart itself
 	prepare                  func(*flag.FlagSet) func(k *process.Keeper, args []string) (int, error)
 }
 
 // commands are in the order in which help tells them.
-var commands = []*command{&runCommand, &testCommand, &buildCommand, &traceCommand, &showCommand}
+var commands = []*command{&runCommand, &testCommand, &execCommand, &buildCommand, &traceCommand}
 
 // usageError is a mistake in a command's words.
 type usageError struct {
@@ -82,11 +83,11 @@ func dispatch(args []string) (int, error) {
 	}
 	flags := c.flags()
 	do := c.prepare(flags)
-	if c != &testCommand { // which takes its own words apart
+	if !c.takesWords {
 		err := flags.Parse(args[1:])
 		switch {
 		case errors.Is(err, flag.ErrHelp):
-			return 0, help(args[:1])
+			return 0, c.help()
 		case err != nil:
 			return 0, &usageError{c.name, err}
 		}
@@ -96,7 +97,7 @@ func dispatch(args []string) (int, error) {
 	status, err := do(keeper, args[1:])
 	switch {
 	case errors.Is(err, flag.ErrHelp):
-		return 0, help(args[:1])
+		return 0, c.help()
 	case keeper.Unread():
 		return unread, nil
 	}
@@ -128,20 +129,20 @@ func help(args []string) error {
 	if c == nil {
 		return fmt.Errorf("there is no command %s (gorec help lists them)", args[0])
 	}
+	return c.help()
+}
+
+// help tells of a command, and of its flags.
+func (c *command) help() error {
 	fmt.Printf("usage: gorec %s %s\n\n%s\n", c.name, c.words, c.about)
 	if c.more != "" {
 		fmt.Print("\n" + c.more)
 	}
 	fmt.Print("\nThe flags:\n")
-	flags, own := c.flags(), c.flags()
+	flags := c.flags()
 	c.prepare(flags)
-	own.SetOutput(os.Stdout)
-	flags.VisitAll(func(f *flag.Flag) {
-		if _, passed := f.Value.(*passedFlag); !passed {
-			own.Var(f.Value, f.Name, f.Usage)
-		}
-	})
-	own.PrintDefaults()
+	flags.SetOutput(os.Stdout)
+	flags.PrintDefaults()
 	return nil
 }
 

@@ -55,15 +55,13 @@ func (r *race) inAnotherOrder() string {
 
 // judgedBy is the judge's command for a segment, and why it isn't the one that predicts, if that is
 // wanted: what the trace leaves out may be what a goroutine goes by.
-func (j *judging) judgedBy(hasAll bool, forgotten int) (command []string, why string) {
+func (j *judging) judgedBy(hasAll bool) (command []string, why string) {
 	check := []string{"check"}
 	switch {
 	case !j.predict:
 		return check, ""
 	case !hasAll:
 		return check, "there are more variables than one trace has names for"
-	case forgotten > 0:
-		return check, "there was no room for all variables"
 	case j.turned:
 		return []string{"predict", turnedFlag}, ""
 	}
@@ -73,8 +71,7 @@ func (j *judging) judgedBy(hasAll bool, forgotten int) (command []string, why st
 // turnedFlag is the judge's flag for orders in which critical sections and messages change places.
 const turnedFlag = "--turned"
 
-// tellDoubts tells what was judged in the recorded order alone, though others are wanted too, and
-// where a prediction may be false.
+// tellDoubts tells what was judged in the recorded order alone, though others are wanted too.
 func (j *judging) tellDoubts() {
 	var reasons []string
 	for reason := range j.unpredicted {
@@ -87,9 +84,6 @@ func (j *judging) tellDoubts() {
 			of = fmt.Sprintf(" in %d of %d traces", j.unpredicted[reason], j.segments)
 		}
 		fmt.Fprintf(j.c.out, "gorec: no race of another order was searched for%s, since %s\n", of, reason)
-	}
-	if len(j.o.predicted) > 0 && (len(j.t.Missed) > 0 || j.o.summary.Losses() != "") {
-		fmt.Fprintln(j.c.out, "gorec: a prediction may be false: the program may depend on something that isn't in the trace")
 	}
 }
 

@@ -4,7 +4,6 @@ import (
 	"strings"
 	"testing"
 
-	"gorace.local/recorder/internal/instrument"
 	"gorace.local/recorder/internal/trace"
 )
 
@@ -59,17 +58,15 @@ predicted: 2
 func TestJudgedBy(t *testing.T) {
 	for _, c := range []struct {
 		predict, turned, hasAll bool
-		forgotten               int
 		want                    string
 	}{
-		{false, false, false, 0, "check"},
-		{true, false, true, 0, "predict"},
-		{true, true, true, 0, "predict --turned"},
-		{true, true, false, 0, "check: there are more variables than one trace has names for"},
-		{true, false, true, 2, "check: there was no room for all variables"},
+		{false, false, false, "check"},
+		{true, false, true, "predict"},
+		{true, true, true, "predict --turned"},
+		{true, true, false, "check: there are more variables than one trace has names for"},
 	} {
 		j := &judging{session: &session{recording: &recording{predict: c.predict, turned: c.turned}}}
-		words, why := j.judgedBy(c.hasAll, c.forgotten)
+		words, why := j.judgedBy(c.hasAll)
 		got := strings.Join(words, " ")
 		if why != "" {
 			got += ": " + why
@@ -80,29 +77,20 @@ func TestJudgedBy(t *testing.T) {
 	}
 }
 
-// TestTellDoubts: what no other order was looked for in is told, and that a prediction may be false where something
-// isn't recorded.
+// TestTellDoubts: what no other order was looked for in is told.
 func TestTellDoubts(t *testing.T) {
-	const doubt = "gorec: a prediction may be false: the program may depend on something that isn't in the trace\n"
 	for _, c := range []struct {
 		unpredicted map[string]int
 		segments    int
-		predicted   []race
-		missed      map[string]int
 		want        string
 	}{
-		{nil, 1, nil, map[string]int{"f": 1}, ""},
-		{nil, 1, []race{{}}, nil, ""},
-		{nil, 1, []race{{}}, map[string]int{"f": 1}, doubt},
-		{map[string]int{"a": 1}, 1, nil, nil, "gorec: no race of another order was searched for, since a\n"},
-		{map[string]int{"b": 1, "a": 2}, 3, nil, nil, "gorec: no race of another order was searched for in 2 of 3 traces, since a\n" +
+		{nil, 1, ""},
+		{map[string]int{"a": 1}, 1, "gorec: no race of another order was searched for, since a\n"},
+		{map[string]int{"b": 1, "a": 2}, 3, "gorec: no race of another order was searched for in 2 of 3 traces, since a\n" +
 			"gorec: no race of another order was searched for in 1 of 3 traces, since b\n"},
 	} {
 		var b strings.Builder
-		j := &judging{
-			t: &target{Program: &instrument.Program{Missed: c.missed}}, c: &console{out: &b},
-			o: &outcome{predicted: c.predicted, summary: &trace.Summary{}}, segments: c.segments, unpredicted: c.unpredicted,
-		}
+		j := &judging{c: &console{out: &b}, o: &outcome{summary: &trace.Summary{}}, segments: c.segments, unpredicted: c.unpredicted}
 		if j.tellDoubts(); b.String() != c.want {
 			t.Errorf("%+v: %s", c, b.String())
 		}

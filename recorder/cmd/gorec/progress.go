@@ -4,19 +4,17 @@ import (
 	"fmt"
 	"os"
 	"time"
-
-	"gorace.local/recorder/internal/trace"
 )
 
 // showProgress tells a terminal, once a second, how long the log is; stop ends it.
-func showProgress(log string) (stop func()) {
+func showProgress(length func() int) (stop func()) {
 	if !isTerminal(os.Stderr) {
 		return func() {}
 	}
 	done, ended := make(chan struct{}), make(chan struct{})
 	go func() {
 		defer close(ended)
-		watch(log, done)
+		watch(length, done)
 	}()
 	return func() {
 		close(done)
@@ -24,10 +22,9 @@ func showProgress(log string) (stop func()) {
 	}
 }
 
-func watch(path string, done <-chan struct{}) {
+func watch(length func() int, done <-chan struct{}) {
 	tick := time.NewTicker(time.Second)
 	defer tick.Stop()
-	var log *trace.Log
 	shown := false
 	for {
 		select {
@@ -35,18 +32,13 @@ func watch(path string, done <-chan struct{}) {
 			if shown {
 				fmt.Fprint(os.Stderr, "\r\x1b[K")
 			}
-			if log != nil {
-				log.Close()
-			}
 			return
 		case <-tick.C:
 		}
-		if log == nil {
-			log, _ = trace.Open(path) // not there yet
-			continue
+		if n := length(); n > 0 {
+			fmt.Fprintf(os.Stderr, "\rgorec: %d records so far", n)
+			shown = true
 		}
-		fmt.Fprintf(os.Stderr, "\rgorec: %d records so far", log.Len())
-		shown = true
 	}
 }
 

@@ -8,11 +8,9 @@ import (
 	"math/rand"
 	"os"
 	"os/exec"
-	"path/filepath"
 	"strconv"
 	"time"
 
-	"gorace.local/recorder/internal/instrument"
 	"gorace.local/recorder/internal/process"
 	"gorace.local/recorder/internal/trace"
 	"gorace.local/recorder/wire"
@@ -20,7 +18,6 @@ import (
 
 // recording are the flags by which runs are recorded and judged.
 type recording struct {
-	building
 	out, log, judge, seed string
 	format, runs, records int
 	all, json, stacks     bool
@@ -28,9 +25,8 @@ type recording struct {
 }
 
 func (r *recording) define(flags *flag.FlagSet) {
-	r.building.define(flags)
 	flags.StringVar(&r.out, "o", "", "keep the trace in this `file` or folder; of several packages, those that aren't clean, in this folder")
-	flags.StringVar(&r.log, "log", "", "keep the log, of up to 671 MB, in this `file`; else it is a temporary one, in $TMPDIR or /tmp")
+	flags.StringVar(&r.log, "log", "", "keep the log, of up to 749 MB, in this `file`")
 	flags.StringVar(&r.judge, "gorace", "", "the `command` that judges: a file, or words between blanks")
 	flags.StringVar(&r.seed, "seed", "", "a `number` up to 4,294,967,295, which sets where goroutines yield; 0: nowhere")
 	flags.IntVar(&r.format, "format", 0, "the `version` of the trace, 1 or 2; 2 has words for TryLock and TryRLock")
@@ -40,6 +36,9 @@ func (r *recording) define(flags *flag.FlagSet) {
 	flags.BoolVar(&r.stacks, "stacks", true, "record the calls that led to each access")
 	flags.BoolVar(&r.predict, "predict", false, "tell races of other orders of the run too, with status 66; writes version 2")
 	flags.BoolVar(&r.turned, "turned", false, "with -predict: critical sections and messages may change places too")
+}
+
+func (r *recording) defineJSON(flags *flag.FlagSet) {
 	flags.BoolVar(&r.json, "json", false, "write lines of JSON: output, races and verdicts")
 }
 
@@ -103,13 +102,33 @@ func (s *session) end() { s.folder.remove() }
 
 // A target is a program that was built, and how it is run.
 type target struct {
-	*instrument.Program
-	copied *instrument.Copy
 	name   string // of its files
 	file   string
+	beside string // begins the names of temporary files; "" for file
 	words  []string
-	tests  bool
+	dir    string // in which it runs, "" for the one that gorec is in
+	input  bool   // it has gorec's
 	folder string // for its trace, where there are several
+	log    logMaker
+}
+
+// A logMaker makes the log of a run.
+type logMaker func(s *session, t *target, seed string) (runLog, error)
+
+// scratch begins the names of temporary files.
+func (t *target) scratch() string {
+	if t.beside != "" {
+		return t.beside
+	}
+	return t.file
+}
+
+// A runLog is what is recorded of a run.
+type runLog interface {
+	environment() []string                          // what the program has to know
+	follow(j *judging, ended <-chan struct{}) error // has each part of it judged, until the program has ended
+	length() (records int)                          // so far
+	drop()
 }
 
 // An outcome is how a run ended.
@@ -122,6 +141,7 @@ type outcome struct {
 	report  string
 	races   []race
 	moments map[int]trace.Moment // of the races' accesses, by event
+	labels  []string             // of goroutines, by their numbers: the test that they belong to
 	stacks  stackTable
 	racing  []*outcome // of a run: its segments with races at other places than those before, predicted ones too
 	trace   string     // where it is kept
@@ -149,6 +169,9 @@ func (s *session) repeat(t *target, c *console) (*outcome, error) {
 			o.status = worst
 			return o, nil
 		}
+		if c.between != nil {
+			c.between()
+		}
 	}
 }
 
@@ -169,14 +192,11 @@ func (s *session) seedOf(i int) string {
 // once runs a program, has its trace judged, and explains the report. Where no race is found
 // the status is 0 only if the trace is whole and the program didn't fail.
 func (s *session) once(t *target, c *console, seed string) (*outcome, error) {
-	log, err := s.createLog(t)
+	log, err := t.log(s, t, seed)
 	if err != nil {
 		return nil, err
 	}
-	if s.log == "" {
-		defer os.Remove(log)
-		defer os.Remove(log + stacksSuffix)
-	}
+	defer log.drop()
 	out, err := s.createTrace(t)
 	if err != nil {
 		return nil, err
@@ -202,11 +222,10 @@ func (s *session) once(t *target, c *console, seed string) (*outcome, error) {
 }
 
 // recordAndJudge runs a program. Parts of a long run are judged while it goes on.
-func (s *session) recordAndJudge(t *target, c *console, log string, out *traceFile, o *outcome) error {
-	j := &judging{session: s, t: t, c: c, log: log, out: out, o: o, told: map[string]bool{}, ends: map[string]int{},
-		unpredicted: map[string]int{}}
+func (s *session) recordAndJudge(t *target, c *console, log runLog, out *traceFile, o *outcome) error {
+	j := newJudging(s, t, c, out, o)
 	ended, judged := make(chan struct{}), make(chan error, 1)
-	go func() { judged <- j.follow(ended) }()
+	go func() { judged <- log.follow(j, ended) }()
 	err := s.record(t, c, log, o)
 	close(ended)
 	if judging := <-judged; err == nil {
@@ -215,47 +234,22 @@ func (s *session) recordAndJudge(t *target, c *console, log string, out *traceFi
 	return err
 }
 
-// createLog makes the log before the run, which may be long. A log that is there is that of
-// another run. Tests run in their package's folder, so its path is whole.
-func (s *session) createLog(t *target) (string, error) {
-	log := s.log
-	if log == "" {
-		log = t.file + ".log"
-	}
-	log, err := filepath.Abs(log)
-	if err != nil {
-		return "", err
-	}
-	return log, os.WriteFile(log, nil, 0o644)
-}
-
 // record runs a program; its trace is judged however it ends.
-func (s *session) record(t *target, c *console, log string, o *outcome) error {
+func (s *session) record(t *target, c *console, log runLog, o *outcome) error {
 	cmd := exec.Command(t.file, t.words...)
-	cmd.Env = append(os.Environ(), "GOREC_LOG="+log, fmt.Sprintf("GOREC_PART=%d", s.partRecords(t)))
-	if s.stacks {
-		cmd.Env = append(cmd.Env, "GOREC_STACKS="+log+stacksSuffix)
+	cmd.Env = append(os.Environ(), log.environment()...)
+	if t.dir != "" {
+		cmd.Dir = t.dir
+		cmd.Env = append(cmd.Env, "PWD="+t.dir)
 	}
-	if s.all {
-		cmd.Env = append(cmd.Env, "GOREC_ALL=1")
-	}
-	if o.seed != "" {
-		cmd.Env = append(cmd.Env, "GOREC_SEED="+o.seed)
-	}
-	if s.format != 0 {
-		cmd.Env = append(cmd.Env, fmt.Sprintf("GOREC_FORMAT=%d", s.format))
-	}
-	if t.tests {
-		cmd.Dir = t.Dir
-		cmd.Env = append(cmd.Env, "PWD="+t.Dir)
-	} else {
+	if t.input {
 		cmd.Stdin = os.Stdin
 	}
 	finish, err := c.attach(cmd)
 	if err != nil {
 		return err
 	}
-	stop := showProgress(log)
+	stop := showProgress(log.length)
 	began := time.Now()
 	o.ended = s.keeper.Run(cmd)
 	o.elapsed = time.Since(began)
@@ -265,28 +259,21 @@ func (s *session) record(t *target, c *console, log string, o *outcome) error {
 	switch {
 	case o.ended == nil:
 	case errors.As(o.ended, &ended):
-		fmt.Fprintln(c.notes, "gorec: the program ended with "+o.ended.Error())
+		if c.program == nil {
+			fmt.Fprintln(c.notes, "gorec: the program ended with "+o.ended.Error())
+		}
 	default:
 		return o.ended
 	}
 	return nil
 }
 
-// partRecords is how many records each part of the run, one log, has.
-func (s *session) partRecords(t *target) int {
-	switch {
-	case s.records > 0:
-		return s.records
-	case t.tests:
-		return testPart
-	}
-	return programPart
-}
-
 // A console is where the output of a program and the reports on it go.
 type console struct {
 	own        bool // the program has gorec's own output
 	out, notes io.Writer
+	program    io.Writer // where else than to out the program's output goes, which tells itself how it ended
+	between    func()    // what is to be done between runs, if anything
 }
 
 // A lineEnder ends the last line of a program's output, so that a report begins a line.
@@ -313,20 +300,29 @@ func (c *console) attach(cmd *exec.Cmd) (finish func(), err error) {
 		cmd.Stdout, cmd.Stderr = os.Stdout, os.Stderr
 		return func() {}, nil
 	}
+	to := c.out
+	if c.program != nil {
+		to = c.program
+	}
+	w, finish, err := pipeTo(&lineEnder{to: to})
+	cmd.Stdout, cmd.Stderr = w, w
+	return finish, err
+}
+
+// pipeTo is a pipe by which a program's output goes to a writer. finish waits for it, unless what the program started keeps it.
+func pipeTo(lines *lineEnder) (w *os.File, finish func(), err error) {
 	r, w, err := os.Pipe()
 	if err != nil {
-		return nil, err
+		return nil, nil, err
 	}
-	cmd.Stdout, cmd.Stderr = w, w
 	done := make(chan struct{})
 	go func() {
 		defer close(done)
-		lines := &lineEnder{to: c.out}
 		io.Copy(lines, r)
 		lines.end()
 		io.Copy(io.Discard, r) // where nothing can be written any more, the program needn't wait
 	}()
-	return func() {
+	return w, func() {
 		w.Close()
 		select {
 		case <-done:

@@ -4,11 +4,9 @@ import (
 	"fmt"
 	"io"
 	"regexp"
-	"sort"
 	"strconv"
 	"strings"
 
-	"gorace.local/recorder/internal/instrument"
 	"gorace.local/recorder/internal/trace"
 )
 
@@ -55,6 +53,7 @@ func (o *outcome) explain(w io.Writer) {
 func (o *outcome) tellMore(w io.Writer, races []race, told map[string]bool) {
 	holdings(w, races, o.moments, told)
 	starters(w, races, o.summary.Starts, told)
+	o.tellTests(w, races, told)
 	o.tellStacks(w, races, told)
 }
 
@@ -166,44 +165,9 @@ func lastBefore(starts []trace.Start, event int) *trace.Start {
 	return nil
 }
 
-// tell writes what the trace hasn't, and last where it is cut off.
-func tell(w io.Writer, s *trace.Summary, p *instrument.Program) {
-	var lacks []string
-	if n := len(p.Refused); n > 0 {
-		first, _, _ := strings.Cut(p.Refused[0], ": ")
-		lacks = append(lacks, fmt.Sprintf("%s can't be recorded, so reports may be false (%s)", places(n), first))
-	}
-	if losses := s.Losses(); losses != "" {
-		lacks = append(lacks, losses)
-	}
-	if len(p.Missed) > 0 {
-		lacks = append(lacks, "not recorded is what these calls do with what their arguments point at: "+listed(p.Missed))
-	}
-	if len(lacks) > 0 {
-		fmt.Fprintln(w, "gorec: "+strings.Join(lacks, "; "))
-	}
+// tell writes where the trace is cut off.
+func tell(w io.Writer, s *trace.Summary) {
 	if s.Cut != "" {
 		fmt.Fprintf(w, "gorec: the trace is cut off after %d events: %s\n", s.Events, s.Cut)
 	}
-}
-
-// tellForgotten tells how often a variable was forgotten.
-func tellForgotten(w io.Writer, times int) {
-	if times > 0 {
-		fmt.Fprintf(w, "gorec: there was no room for all variables: %d times one was forgotten that one goroutine alone had used; "+
-			"races with what that did are missed\n", times)
-	}
-}
-
-// listed names each call with its number of places.
-func listed(missed map[string]int) string {
-	var names []string
-	for name, n := range missed {
-		if n > 1 {
-			name += fmt.Sprintf(" (%d places)", n)
-		}
-		names = append(names, name)
-	}
-	sort.Strings(names)
-	return strings.Join(names, ", ")
 }

@@ -1,6 +1,7 @@
 package main
 
 import (
+	"debug/buildinfo"
 	"flag"
 	"fmt"
 	"os"
@@ -11,53 +12,79 @@ import (
 )
 
 var runCommand = command{
-	name:  "run",
+	name: "run", takesWords: true,
 	words: "[flags] PACKAGE [ARGUMENTS]",
 	about: "runs a program, and has its trace judged",
-	more: `The package may be named by its files. What follows it goes to the program.
+	more: `The package may be named by its files. What follows it goes to the program. Other flags are those of go build.
 ` + statuses,
 	prepare: func(flags *flag.FlagSet) func(*process.Keeper, []string) (int, error) {
 		var r recording
 		r.define(flags)
+		r.defineJSON(flags)
 		return func(k *process.Keeper, args []string) (int, error) {
-			if len(args) == 0 {
+			p := &wordParser{command: "run", own: flags, help: &goHelp{topics: []string{"build"}}, args: args}
+			rest, err := p.parse()
+			switch {
+			case err != nil:
+				return 0, err
+			case len(rest) == 0:
 				return 0, noPackage("run")
 			}
-			return r.run(k, args)
+			return r.run(k, &p.flags, rest)
 		}
 	},
 }
 
-// run records runs of a program, and has them judged.
-func (r *recording) run(k *process.Keeper, args []string) (int, error) {
+// run builds a program, records runs of it, and has them judged.
+func (r *recording) run(k *process.Keeper, flags *goFlags, args []string) (int, error) {
 	s, err := r.begin(k)
 	if err != nil {
 		return 0, err
 	}
 	defer s.end()
+	b, err := newBuilder(k, flags, s.folder.path)
+	if err != nil {
+		return 0, err
+	}
 	n := packageWords(args)
-	copied, err := r.instrument(k, args[:n], s.folder.path, false)
+	file, err := b.program(args[:n])
 	if err != nil {
 		return 0, err
 	}
-	p, err := r.single(copied, args[:n], false)
-	if err != nil {
-		return 0, err
-	}
-	name := fileName(p.ImportPath, false)
+	path := importPathOf(file)
+	t := &target{name: fileName(path, false), file: file, words: args[n:], input: true, log: newHookLog}
 	if strings.HasSuffix(args[0], ".go") {
-		name = filepath.Base(p.Dir) + "_" + strings.TrimSuffix(filepath.Base(args[0]), ".go")
+		path = nameOfFiles(args[0])
+		t.name = path
 	}
-	t := &target{Program: p, copied: copied, name: name, file: filepath.Join(s.folder.path, "program"), words: args[n:]}
-	if err := p.Build(k.Run, t.file, false); err != nil {
-		return 0, err
+	return s.runProgram(t, path)
+}
+
+// nameOfFiles is that of a program that was named by its files, of which this is the first.
+func nameOfFiles(file string) string {
+	name := strings.TrimSuffix(filepath.Base(file), ".go")
+	if dir, err := filepath.Abs(filepath.Dir(file)); err == nil {
+		name = filepath.Base(dir) + "_" + name
 	}
-	if k.Interrupted() {
+	return name
+}
+
+// importPathOf is that of a program that was built.
+func importPathOf(file string) string {
+	if info, err := buildinfo.ReadFile(file); err == nil && info.Path != "" {
+		return info.Path
+	}
+	return filepath.Base(file)
+}
+
+// runProgram runs a program that was built.
+func (s *session) runProgram(t *target, importPath string) (int, error) {
+	if s.keeper.Interrupted() {
 		return 0, errInterrupted
 	}
 	c := &console{own: true, out: os.Stdout, notes: os.Stderr}
-	if r.json {
-		e := newEvents(os.Stdout, p.ImportPath)
+	if s.json {
+		e := newEvents(os.Stdout, importPath)
 		c = &console{out: e, notes: e}
 		defer e.Close()
 		o, err := s.repeat(t, c)

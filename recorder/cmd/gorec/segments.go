@@ -5,39 +5,42 @@ import (
 	"fmt"
 	"io"
 	"os"
-	"runtime/debug"
 	"sort"
-	"strconv"
 	"strings"
 	"sync"
 	"time"
 
+	"gorace.local/recorder/internal/sites"
 	"gorace.local/recorder/internal/trace"
 	"gorace.local/recorder/wire"
 )
 
-// How many records a part, one log of a run, has, unless -records says it: of tests more, since
-// they end.
-// There are two parts at most: one that is written, and one that is judged meanwhile.
+// How many records -records has a part be of.
 const (
 	fewestRecords = 1 << 10
-	programPart   = 1 << 19
-	testPart      = 1 << 22
 	mostRecords   = 1<<24 + 1<<22
 )
+
+// A part is what was recorded of a run up to where it is judged; the run may go on in another part.
+type part struct {
+	records []wire.Record // in order
+	table   sites.Table
+	options trace.Options
+	end     string                           // why another part follows, "" where none does
+	cut     string                           // why recording stopped before the run's end, else ""
+	stacks  func(wanted []uint32) stackTable // by the numbers that the records have
+	labels  []string                         // of goroutines, by their numbers: the test that they belong to
+}
 
 // A judging has the parts of a run judged, while the program runs, each in one segment or
 // several.
 type judging struct {
 	*session
-	t      *target
-	c      *console
-	log    string // the first part's file
-	out    *traceFile
-	stacks stackTable
-	o      *outcome
+	t   *target
+	c   *console
+	out *traceFile
+	o   *outcome
 
-	part     int
 	segments int
 	racing   int
 	told     map[string]bool // what races at which places
@@ -45,120 +48,46 @@ type judging struct {
 	cut      string          // why one ended that none follows
 	noted    time.Time       // when a segment without another race was noted last
 
-	forgotten int // variables that one goroutine alone had used
-
 	unpredicted map[string]int // why segments weren't searched for races of other orders
 }
 
-// follow has each part judged once the run goes on in another one, until the program has ended.
-// Where one can't be judged the program isn't stopped, which would wait for that.
-func (j *judging) follow(ended <-chan struct{}) (failed error) {
-	var log *trace.Log
-	for over := false; ; {
-		if log == nil {
-			log, _ = trace.Open(j.path()) // not there yet
-		}
-		if log != nil && log.GoesOn() {
-			if failed == nil {
-				failed = j.judgePart(log)
-			} else {
-				j.pass(log)
-			}
-			log = nil
-			continue
-		}
-		if over {
-			break
-		}
-		select {
-		case <-ended:
-			over = true
-		case <-time.After(20 * time.Millisecond):
-		}
-	}
-	switch {
-	case log == nil:
-		return fmt.Errorf("the program left no log: %s", j.path())
-	case failed != nil:
-		j.pass(log)
-		return failed
-	}
-	if failed = j.judgePart(log); failed == nil {
-		j.tell()
-	}
-	return failed
+func newJudging(s *session, t *target, c *console, out *traceFile, o *outcome) *judging {
+	return &judging{session: s, t: t, c: c, out: out, o: o, told: map[string]bool{}, ends: map[string]int{}, unpredicted: map[string]int{}}
 }
 
-// pass lets the program go on behind a part.
-func (j *judging) pass(log *trace.Log) {
-	log.Done()
-	log.Close()
-	if j.session.log == "" {
-		os.Remove(j.path())
-	}
-	j.part++
-}
-
-// path is the file of the part.
-func (j *judging) path() string {
-	if j.part == 0 {
-		return j.log
-	}
-	return j.log + "." + strconv.Itoa(j.part)
-}
-
-// judgePart has the segments of a part judged. Then the program may go on with another one.
-func (j *judging) judgePart(log *trace.Log) error {
-	successor, forgotten := log.Successor(), log.Forgotten()
-	j.forgotten += forgotten
-	defer j.pass(log)
-	options := j.traceOptions(log)
-	if err := checkVersion(log, options); err != nil {
-		return err
-	}
-	// What a part takes is needed once, and the program that runs beside needs memory too.
-	defer debug.SetGCPercent(debug.SetGCPercent(20))
-	defer debug.FreeOSMemory()
-	records, err := log.Records()
-	if err != nil {
-		return err
-	}
-	s := trace.NewSegments(records, options)
+// judgePart has the segments of a part judged.
+func (j *judging) judgePart(p *part) error {
+	s := trace.NewSegments(p.records, p.options)
 	for {
-		command, why := j.judgedBy(s.HasAllVariables(), forgotten)
+		command, why := j.judgedBy(s.HasAllVariables())
 		if why != "" {
 			j.unpredicted[why]++
 		}
-		if err := j.judgeSegment(s, command, options, successor); err != nil {
+		if err := j.judgeSegment(s, p, command); err != nil {
 			return err
 		}
 		if !s.Next() {
 			return nil
 		}
-		options.Variables = 0
+		p.options.Variables = 0
 	}
-}
-
-// partEnds say why a part has ended, which the run hasn't.
-var partEnds = map[wire.Successor]string{
-	wire.AfterRecords: "a log that was full", wire.AfterVariables: "as many variables as a log is for",
 }
 
 // judgeSegment has a segment judged. Where it is the only one of the run its report is printed as it
 // is; else that of a clean one is a note.
-func (j *judging) judgeSegment(s *trace.Segments, command []string, options trace.Options, successor wire.Successor) error {
-	follows := successor != wire.NoSuccessor // another log
+func (j *judging) judgeSegment(s *trace.Segments, p *part, command []string) error {
+	follows := p.end != "" // another part
 	file, path, done, err := j.traceOf()
 	if err != nil {
 		return err
 	}
 	defer done()
 	o := &outcome{}
-	if o.summary, err = s.Write(j.t.copied.Sites, options, file); err != nil {
+	if o.summary, err = s.Write(p.table, p.options, file); err != nil {
 		return err
 	}
-	if !s.More() && follows {
-		o.summary.Cut = partEnds[successor]
+	if !s.More() && o.summary.Cut == "" {
+		o.summary.Cut = p.end + p.cut
 	}
 	j.segments++
 	only := j.segments == 1 && !follows && !s.More()
@@ -173,10 +102,10 @@ func (j *judging) judgeSegment(s *trace.Segments, command []string, options trac
 	}
 	isNew := j.isNew(o)
 	if isNew {
-		if o.moments, err = s.Moments(j.t.copied.Sites, options, o.events()); err != nil {
+		if o.moments, err = s.Moments(p.table, p.options, o.events()); err != nil {
 			return err
 		}
-		o.stacks = readStacks(j.t.file, j.log+stacksSuffix)
+		o.stacks, o.labels = p.stacks(o.wantedStacks()), p.labels
 		o.explain(j.c.out)
 		j.o.racing = append(j.o.racing, o)
 		j.o.races = append(j.o.races, o.races...)
@@ -192,7 +121,7 @@ func (j *judging) judgeSegment(s *trace.Segments, command []string, options trac
 		j.told[predicted+r.places()] = true
 	}
 	if only {
-		tell(j.c.out, o.summary, j.t.Program)
+		tell(j.c.out, o.summary)
 	}
 	j.add(o, s.GoesOn() || !s.More() && follows)
 	return nil
@@ -298,7 +227,6 @@ func (j *judging) add(o *outcome, followed bool) {
 
 // tell tells at the end what lies between segments.
 func (j *judging) tell() {
-	tellForgotten(j.c.out, j.forgotten)
 	j.tellDoubts()
 	if j.segments == 1 {
 		return
@@ -306,7 +234,7 @@ func (j *judging) tell() {
 	if j.predict {
 		fmt.Fprintf(j.c.out, "gorec: of all traces predicted: %d, not searched: %d variables\n", j.o.predictedCount, j.o.notSearched)
 	}
-	tell(j.c.out, j.o.summary, j.t.Program)
+	tell(j.c.out, j.o.summary)
 	var reasons []string
 	for reason, n := range j.ends {
 		reasons = append(reasons, fmt.Sprintf("%s (%d)", reason, n))
@@ -335,5 +263,9 @@ func (w lockedWriter) Write(b []byte) (int, error) {
 // locked is a console for several at once.
 func (c *console) locked() *console {
 	mu := &sync.Mutex{}
-	return &console{own: c.own, out: lockedWriter{mu, c.out}, notes: lockedWriter{mu, c.notes}}
+	l := &console{own: c.own, out: lockedWriter{mu, c.out}, notes: lockedWriter{mu, c.notes}}
+	if c.program != nil {
+		l.program = lockedWriter{mu, c.program}
+	}
+	return l
 }

@@ -1,20 +1,12 @@
 package main
 
 import (
-	"bufio"
-	"context"
 	"fmt"
 	"io"
 	"os"
-	"os/exec"
 	"path/filepath"
-	"strconv"
 	"strings"
-	"time"
 )
-
-// stacksSuffix is behind the name of a log in that of the file with its stacks.
-const stacksSuffix = ".stacks"
 
 // frame is a call on a stack.
 type frame struct{ Function, Place string }
@@ -22,50 +14,18 @@ type frame struct{ Function, Place string }
 // stackTable has the stacks of a run by their numbers.
 type stackTable map[uint32][]frame
 
-// longestTelling is how long a program may take to tell its stacks.
-const longestTelling = time.Minute
-
-// readStacks has the program tell the stacks that it wrote: a line for each, with its number, and a
-// function and a place for each call. Where there is no file there are no stacks.
-func readStacks(program, path string) stackTable {
-	if _, err := os.Stat(path); err != nil {
-		return nil
+// wantedStacks are the numbers of those of races, and of how the goroutines in them were started.
+func (o *outcome) wantedStacks() []uint32 {
+	var wanted []uint32
+	for _, m := range o.moments {
+		wanted = append(wanted, m.Stack)
 	}
-	in, out, err := os.Pipe()
-	if err != nil {
-		return nil
-	}
-	defer in.Close()
-	limit, stop := context.WithTimeout(context.Background(), longestTelling)
-	defer stop()
-	cmd := exec.CommandContext(limit, program)
-	cmd.Env, cmd.ExtraFiles = append(os.Environ(), "GOREC_CALLS="+path), []*os.File{out}
-	err = cmd.Start()
-	out.Close()
-	if err != nil {
-		return nil
-	}
-	defer cmd.Wait()
-	return parseStacks(in)
-}
-
-func parseStacks(from io.Reader) stackTable {
-	t := stackTable{}
-	in := bufio.NewScanner(from)
-	in.Buffer(nil, 1<<20)
-	for in.Scan() {
-		words := strings.Split(in.Text(), "\t")
-		id, err := strconv.ParseUint(words[0], 10, 32)
-		if err != nil {
-			continue
+	for _, starts := range o.summary.Starts {
+		for _, s := range starts {
+			wanted = append(wanted, s.Stack)
 		}
-		var frames []frame
-		for i := 1; i+1 < len(words); i += 2 {
-			frames = append(frames, frame{words[i], words[i+1]})
-		}
-		t[uint32(id)] = frames
 	}
-	return t
+	return wanted
 }
 
 // show writes a stack as Go's detector does.

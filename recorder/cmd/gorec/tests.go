@@ -7,284 +7,188 @@ import (
 	"fmt"
 	"io"
 	"os"
+	"os/exec"
 	"path/filepath"
 	"regexp"
-	"strconv"
 	"strings"
 
-	"gorace.local/recorder/internal/instrument"
 	"gorace.local/recorder/internal/process"
 )
 
 var testCommand = command{
-	name:  "test",
-	words: "[flags] [PACKAGES] [flags of go test and of the tests]",
-	about: "runs packages' tests, and has their traces judged",
-	more: `Packages are named as for go test: without any the one of this folder; ./... all below it. After
-them come flags of go test alone, as -run X -v, and those of the tests; after -args all is for
-the tests. Each package has a line: ok, FAIL, RACE or [no test files].
-
-The flags of go test are -` + strings.Join(boolFlags, ", -") + ", and with values\n-" + strings.Join(valueFlags, ", -") + `.
+	name: "test", takesWords: true,
+	words: "[flags] [flags of go test] [PACKAGES] [flags of go test and of the tests]",
+	about: "runs go test, and has the traces of the tests judged",
+	more: `A package with data races is reported as one that fails. All words but these flags are go test's: gorec's own stand in
+front of the packages.
 ` + statuses,
 	prepare: func(flags *flag.FlagSet) func(*process.Keeper, []string) (int, error) {
-		c := &testRun{}
-		c.define(flags)
+		var r recording
+		r.define(flags)
 		return func(k *process.Keeper, args []string) (int, error) {
-			if err := c.parse(flags, args); err != nil {
+			p := &wordParser{command: "test", own: flags, help: &goHelp{topics: []string{"build", "test", "testflag"}}, args: args}
+			if err := p.parseTest(); err != nil {
 				return 0, err
 			}
-			return c.run(k)
+			return r.test(k, p)
 		}
 	},
 }
 
-// A testRun is one of gorec test.
-type testRun struct {
-	recording
-	testWords
-	jobs   int
-	copied *instrument.Copy
-	*session
-}
-
-func (c *testRun) define(flags *flag.FlagSet) {
-	c.recording.define(flags)
-	c.testWords.define(flags)
-	flags.IntVar(&c.jobs, "p", 1, "test `N` packages side by side")
-}
-
-// run tests the packages one after another, or several side by side, and answers one status for
-// all.
-func (c *testRun) run(k *process.Keeper) (int, error) {
-	if len(c.packages) == 0 {
-		c.packages = []string{"."}
+// test has go test run each package's tests by gorec exec, and answers one status for all.
+func (r *recording) test(k *process.Keeper, p *wordParser) (int, error) {
+	if p.has("c") && r.out != "" { // it is go test's -o
+		p.flags.others = append([]string{"-o=" + r.out}, p.flags.others...)
+		r.out = ""
 	}
-	if c.jobs < 1 {
-		return 0, &usageError{"test", fmt.Errorf("-p %d: there is no test", c.jobs)}
-	}
-	var err error
-	if c.session, err = c.begin(k); err != nil {
-		return 0, err
-	}
-	defer c.session.end()
-	if c.copied, err = c.instrument(k, c.packages, c.session.folder.path, true); err != nil {
-		return 0, err
-	}
-	programs := c.copied.Programs
-	switch {
-	case len(programs) == 0:
-		return 0, errors.New("there are no packages in " + strings.Join(c.packages, " "))
-	case len(programs) == 1:
-		return c.one(programs[0])
-	case c.recording.log != "":
-		return 0, &usageError{"test", errors.New("-log keeps the log of one package")}
-	}
-	return c.several(programs)
-}
-
-// one tests a package, whose output goes where gorec's goes.
-func (c *testRun) one(p *instrument.Program) (int, error) {
-	out := &console{out: os.Stdout, notes: os.Stderr}
-	if c.json {
-		e := newEvents(os.Stdout, p.ImportPath)
-		defer e.Close()
-		out = &console{out: e, notes: e}
-	}
-	return c.test(p, "program", "", out)
-}
-
-// several tests packages; the output of each is told at once, in their order.
-func (c *testRun) several(programs []*instrument.Program) (int, error) {
-	folder := cacheFolder()
-	if c.recording.out != "" && c.recording.out != os.DevNull {
-		folder = c.recording.out
-		if err := os.MkdirAll(folder, 0o755); err != nil {
-			return 0, err
-		}
-	}
-	ready := make([]chan struct{}, len(programs))
-	outputs := make([]bytes.Buffer, len(programs))
-	statuses, errs, noted := make([]int, len(programs)), make([]error, len(programs)), make([]bool, len(programs))
-	places := make(chan struct{}, c.jobs)
-	for i := range programs {
-		ready[i] = make(chan struct{})
-	}
-	go func() {
-		for i := range programs {
-			places <- struct{}{}
-			go func(i int) {
-				defer func() { <-places; close(ready[i]) }()
-				if c.keeper.Interrupted() {
-					errs[i] = errInterrupted
-					return
-				}
-				statuses[i], noted[i], errs[i] = c.quiet(programs[i], strconv.Itoa(i), folder, &outputs[i])
-			}(i)
-		}
-	}()
-	status, hidden := 0, 0
-	for i := range programs {
-		<-ready[i]
-		if noted[i] {
-			hidden++
-		}
-		if errs[i] == errInterrupted {
-			return worse(status, unusable), nil
-		}
-		if errs[i] != nil {
-			fmt.Fprintf(os.Stderr, "gorec: %v\n", errs[i])
-			statuses[i] = unusable
-		}
-		os.Stdout.Write(outputs[i].Bytes())
-		outputs[i] = bytes.Buffer{}
-		status = worse(status, statuses[i])
-	}
-	if hidden > 0 {
-		fmt.Fprintf(os.Stderr, "gorec: notes on packages that are ok: %d, as on what isn't recorded; -v prints them\n", hidden)
-	}
-	return status, nil
-}
-
-// tellsAll reports whether the output of each package is wanted, as go test has it.
-func (c *testRun) tellsAll() bool { return c.names["v"] || c.names["bench"] || c.names["list"] }
-
-// quiet tests a package of several. Where nothing is wrong and its output isn't wanted, its line is
-// all that is told; noted says that there are notes.
-func (c *testRun) quiet(p *instrument.Program, name, folder string, to io.Writer) (status int, noted bool, err error) {
-	if c.json {
-		e := newEvents(to, p.ImportPath)
-		defer e.Close()
-		status, err = c.told(p, name, folder, &console{out: e, notes: e})
-		return status, false, err
-	}
-	var all bytes.Buffer
-	status, err = c.told(p, name, folder, &console{out: &all, notes: &all})
-	if status == 0 && err == nil && !c.tellsAll() {
-		text := bytes.TrimSuffix(all.Bytes(), []byte("\n"))
-		noted = isNote.Match(all.Next(bytes.LastIndexByte(text, '\n') + 1))
-	}
-	all.WriteTo(to)
-	return status, noted, err
-}
-
-// isNote matches what gorec says of a package, but how many records and events there are, and that
-// package testing started its tests, as it does all.
-var isNote = regexp.MustCompile(`(?m)^gorec: ([^rs\d]|\d+ [^et]|.* started by package testing, .*; )`)
-
-// told tests a package, which has a line also where it can't be judged.
-func (c *testRun) told(p *instrument.Program, name, folder string, out *console) (int, error) {
-	status, err := c.test(p, name, folder, out)
-	if err != nil && err != errInterrupted {
-		c.notRun(out.out, p, "FAIL", "not judged")
-	}
-	return status, err
-}
-
-// test builds and runs the tests of a package, and writes its line.
-func (c *testRun) test(p *instrument.Program, name, folder string, out *console) (int, error) {
-	switch {
-	case p.Broken != "":
-		c.notRun(out.out, p, "FAIL", p.Broken)
-		return unusable, nil
-	case !p.HasTests:
-		c.notRun(out.out, p, "?", "no test files")
-		return 0, nil
-	}
-	if c.isUnrecorded(p, out.notes) {
-		c.notRun(out.out, p, "FAIL", "not recorded")
-		return unusable, nil
-	}
-	t := &target{
-		Program: p, copied: c.copied, name: fileName(p.ImportPath, true), file: filepath.Join(c.session.folder.path, "tests."+name),
-		words: c.programWords(), tests: true, folder: folder,
-	}
-	if err := p.Build(c.keeper.Run, t.file, true); err != nil {
-		return 0, err
-	}
-	defer os.Remove(t.file)
-	if c.keeper.Interrupted() {
-		return 0, errInterrupted
-	}
-	watch := &warning{to: out.out}
-	watched := &console{out: watch, notes: out.notes}
-	o, err := c.repeat(t, watched)
+	s, err := r.begin(k)
 	if err != nil {
 		return 0, err
 	}
-	c.result(out.out, p, o, watch.seen)
-	return o.status, nil
+	defer s.end()
+	b, err := newBuilder(k, &p.flags, s.folder.path)
+	if err != nil {
+		return 0, err
+	}
+	words, err := s.execWords(p.own, b.env != nil)
+	if err != nil {
+		return 0, err
+	}
+	output, ended, err := s.goTest(b.goCommand([]string{"test", "-exec=" + words}, nil))
+	if err != nil {
+		return 0, err
+	}
+	verdicts, err := readVerdicts(s.folder.path)
+	if err != nil {
+		return 0, err
+	}
+	return statusOfAll(verdicts, output, ended), nil
 }
 
-// isUnrecorded reports whether a package's tests aren't run since they can't be recorded, and tells why.
-func (c *testRun) isUnrecorded(p *instrument.Program, notes io.Writer) bool {
-	switch {
-	case p.Standard:
-		fmt.Fprintf(notes, "gorec: %v\n", errStandard(p))
-		return true
-	case p.Unseen:
-		fmt.Fprintf(notes, "gorec: nothing of %s can be recorded: each package has cgo\n", p.ImportPath)
-		return true
+// goTest runs go test, which may fail.
+func (s *session) goTest(cmd *exec.Cmd) (output *goTestOutput, ended, err error) {
+	output = &goTestOutput{to: os.Stdout}
+	w, finish, err := pipeTo(&lineEnder{to: output})
+	if err != nil {
+		return nil, nil, err
 	}
-	for _, line := range p.Refused {
-		fmt.Fprintln(notes, "gorec: "+line)
+	cmd.Stdout = w
+	ended = s.keeper.Run(cmd)
+	finish()
+	var exit *exec.ExitError
+	if ended != nil && !errors.As(ended, &exit) {
+		return nil, nil, ended
 	}
-	if n := len(p.Refused); n > 0 && !c.force {
-		fmt.Fprintf(notes, "gorec: nothing was run: %s can't be recorded (-force goes on without)\n", places(n))
-		return true
+	return output, ended, nil
+}
+
+// A goTestOutput passes the output of go test on, and notes what it tells.
+type goTestOutput struct {
+	to      io.Writer
+	last    []byte // the begin of a line
+	unbuilt bool   // a package
+	races   bool
+}
+
+var (
+	notBuilt = regexp.MustCompile(`(?:^|\n|"Output":")FAIL(?:\t|\\t)[^\n]*\[(?:build|setup) failed\]`)
+	anyRace  = regexp.MustCompile(`(?:^|\n|"Output":")(?:predicted )?race on `)
+)
+
+func (o *goTestOutput) Write(b []byte) (int, error) {
+	o.last = append(o.last, b...)
+	o.unbuilt = o.unbuilt || notBuilt.Match(o.last)
+	o.races = o.races || anyRace.Match(o.last)
+	o.last = append(o.last[:0], o.last[bytes.LastIndexByte(o.last, '\n')+1:]...)
+	return o.to.Write(b)
+}
+
+// statusOfAll is the worst status of packages, which are told of. If go test failed, though no package's tests did, something
+// else was wrong.
+func statusOfAll(verdicts []verdictFile, output *goTestOutput, ended error) int {
+	status := 0
+	if output.unbuilt {
+		status = unusable
+	}
+	for i := range verdicts {
+		status = worse(status, verdicts[i].Status)
+		if verdicts[i].Status == racing && !output.races {
+			fmt.Print(verdicts[i].Report)
+		}
+		if told := verdicts[i].told(); told != "" {
+			fmt.Fprintf(os.Stderr, "gorec: %s: %s\n", verdicts[i].Package, told)
+		}
+	}
+	if ended != nil && (status == 0 || status == cutOff) {
+		return unusable
+	}
+	return status
+}
+
+// has reports whether a flag of the command go is among the words in front of -args.
+func (p *wordParser) has(flag string) bool {
+	for _, word := range p.flags.others {
+		switch name, value, _ := cutFlag(word); name {
+		case "args":
+			return false
+		case flag:
+			return value != "false"
+		}
 	}
 	return false
 }
 
-// result writes the line of a package that was tested.
-func (c *testRun) result(w io.Writer, p *instrument.Program, o *outcome, noTests bool) {
-	if e, is := events(w); is {
-		e.verdict(o)
-		return
+// execWords are those by which go test runs tests: gorec exec, with the flags that were given.
+func (s *session) execWords(own *flag.FlagSet, withoutC bool) (string, error) {
+	program, err := os.Executable()
+	if err != nil {
+		return "", err
 	}
-	word, more := "ok", ""
-	switch {
-	case o.status == racing:
-		word, more = "RACE", fmt.Sprintf("\traces: %d", o.raceCount)
-		if c.predict {
-			more += fmt.Sprintf(", predicted: %d", o.predictedCount)
+	base, err := os.Getwd()
+	if err != nil {
+		return "", err
+	}
+	words := []string{program, "exec", "-base=" + base, "-verdicts=" + s.folder.path, "-gorace=" + s.judge.command()}
+	if withoutC {
+		words = append(words, "-unset=CGO_ENABLED")
+	}
+	own.Visit(func(f *flag.Flag) {
+		value := f.Value.String()
+		switch f.Name {
+		case "gorace":
+			return
+		case "o", "log":
+			if value, err = s.keptIn(value); err != nil {
+				return
+			}
 		}
-	case o.status != 0 && o.status != cutOff:
-		word = "FAIL"
-	case o.summary.Cut != "":
-		more = fmt.Sprintf("\t[cut off after %d events]", o.summary.Events)
-	case noTests:
-		more = "\t[no tests to run]"
+		words = append(words, "-"+f.Name+"="+value)
+	})
+	if err != nil {
+		return "", err
 	}
-	fmt.Fprintf(w, "%-4s\t%s\t%.3fs%s\n", word, p.ImportPath, o.elapsed.Seconds(), more)
+	for i, word := range words {
+		if words[i], err = quoted(word); err != nil {
+			return "", err
+		}
+	}
+	return strings.Join(words, " "), nil
 }
 
-// notRun writes the line of a package that wasn't run.
-func (c *testRun) notRun(w io.Writer, p *instrument.Program, word, why string) {
-	e, is := events(w)
-	switch {
-	case is:
-		e.notRun(word == "FAIL", why)
-	case word == "FAIL":
-		fmt.Fprintf(w, "FAIL\t%s [%s]\n", p.ImportPath, why)
-	default:
-		fmt.Fprintf(w, "?   \t%s\t[%s]\n", p.ImportPath, why)
+// keptIn is where traces or logs of packages are kept: in a folder, which is made if need be, unless a file is named as one.
+func (s *session) keptIn(path string) (string, error) {
+	path, err := filepath.Abs(path)
+	if err != nil || path == os.DevNull || filepath.Ext(path) != "" && !isFolder(path) {
+		return path, err
 	}
+	return path, os.MkdirAll(path, 0o755)
 }
 
-// A warning looks for what package testing says where no test matched.
-type warning struct {
-	to   io.Writer
-	seen bool
-	last []byte
-}
-
-var noTests = []byte("testing: warning: no tests to run\n")
-
-func (w *warning) Write(b []byte) (int, error) {
-	w.last = append(w.last, b...)
-	w.seen = w.seen || bytes.Contains(w.last, noTests)
-	if over := len(w.last) - len(noTests); over > 0 {
-		w.last = append(w.last[:0], w.last[over:]...)
+// command is the judge's, wherever it is called.
+func (j *judge) command() string {
+	words := append([]string(nil), j.words...)
+	if path, err := filepath.Abs(words[0]); err == nil {
+		words[0] = path
 	}
-	return w.to.Write(b)
+	return strings.Join(words, " ")
 }

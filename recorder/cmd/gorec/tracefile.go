@@ -9,8 +9,6 @@ import (
 	"sort"
 	"strings"
 	"time"
-
-	"gorace.local/recorder/internal/trace"
 )
 
 // A traceFile is where a trace is written. Unless -o names it, it has another name until it is
@@ -54,8 +52,9 @@ func (s *session) createTrace(t *target) (*traceFile, error) {
 
 // temporaryTrace makes the file of a trace that isn't kept.
 func temporaryTrace(t *target) (*traceFile, error) {
-	f, err := os.Create(t.file + ".gotrace")
-	return &traceFile{f, t.file + ".gotrace", ""}, err
+	path := t.scratch() + ".gotrace"
+	f, err := os.Create(path)
+	return &traceFile{f, path, ""}, err
 }
 
 // isFolder says whether a folder has this path.
@@ -175,27 +174,4 @@ func shown(path string) string {
 		return short
 	}
 	return "'" + strings.ReplaceAll(short, "'", `'\''`) + "'"
-}
-
-// traceOptions are those that the flags ask for.
-func (r *recording) traceOptions(log *trace.Log) trace.Options {
-	return traceOptions(log, trace.Options{Version: r.format, All: r.all, Predict: r.predict})
-}
-
-// traceOptions ask for a version, or, with 0, for the one that the log is for.
-func traceOptions(log *trace.Log, o trace.Options) trace.Options {
-	if o.Version == 0 {
-		o.Version = log.Version()
-	}
-	o.Variables = log.Variables()
-	return o
-}
-
-// checkVersion refuses a newer version than that which the log is for.
-func checkVersion(log *trace.Log, o trace.Options) error {
-	if o.Version > log.Version() {
-		return fmt.Errorf("the log was written for version %d of a trace; GOREC_FORMAT=%d makes one for version %d",
-			log.Version(), o.Version, o.Version)
-	}
-	return nil
 }

@@ -5,7 +5,6 @@ import (
 	"fmt"
 	"io"
 	"os"
-	"os/exec"
 	"path/filepath"
 	"strings"
 	"syscall"
@@ -29,57 +28,10 @@ func judgeSaying(t *testing.T, path, report string, status int) string {
 	return path
 }
 
-// runTool runs gorec over the programs of testdata/commands.
-func runTool(t *testing.T, args ...string) (stdout, stderr string, status int) {
-	t.Helper()
-	return runIn(t, root+"/testdata/commands", args...)
-}
-
-// runIn runs gorec in a folder.
-func runIn(t *testing.T, folder string, args ...string) (stdout, stderr string, status int) {
-	t.Helper()
-	var out, errs bytes.Buffer
-	cmd := exec.Command(gorec, args...)
-	cmd.Dir = folder
-	cmd.Stdout, cmd.Stderr = &out, &errs
-	cmd.Run()
-	return out.String(), errs.String(), cmd.ProcessState.ExitCode()
-}
-
 func TestNoJudge(t *testing.T) {
-	out, errs, status := runTool(t, "run", "-gorace", "/no/such/judge", "./refused")
+	out, errs, status := runTool(t, "run", "-gorace", "/no/such/judge", "./runs")
 	if status != 3 || out != "" || !strings.Contains(errs, "gorec: no judge: ") {
 		t.Errorf("status %d\n%s%s", status, out, errs)
-	}
-}
-
-func TestRefused(t *testing.T) {
-	out, errs, status := runTool(t, "run", "-gorace", stub(t), "./refused")
-	want := `gorec: refused/main.go:10: the method expression (*sync.Mutex).Lock; write a function that calls the method
-gorec: nothing was run: one place can't be recorded (-force goes on without)
-`
-	if status != 3 || out != "" || errs != want {
-		t.Errorf("status %d\n%s%s", status, out, errs)
-	}
-	out, _, status = runTool(t, "run", "-force", "-gorace", stub(t), "./refused")
-	want = "ran\nclean: 0 events, 0 accesses\ngorec: one place can't be recorded, so reports may be false (refused/main.go:10)\n"
-	if status != 0 || out != want {
-		t.Errorf("forced: status %d\n%s", status, out)
-	}
-}
-
-// TestForced: what can't be recorded does with -force what it does plain.
-func TestForced(t *testing.T) {
-	plain := exec.Command("go", "run", "./forced")
-	plain.Dir = root + "/testdata/commands"
-	want, err := plain.Output()
-	if err != nil {
-		t.Fatal(err)
-	}
-	out, errs, status := runTool(t, "run", "-force", "-gorace", stub(t), "./forced")
-	if status != 0 || !strings.HasPrefix(out, string(want)+"clean: ") ||
-		!strings.Contains(out, " places can't be recorded, so reports may be false (forced/main.go:") {
-		t.Errorf("status %d\n%s%sbut plain\n%s", status, out, errs, want)
 	}
 }
 
@@ -87,7 +39,7 @@ func TestForced(t *testing.T) {
 // standard error is no terminal.
 func TestInterrupted(t *testing.T) {
 	trace := filepath.Join(t.TempDir(), "run.gotrace")
-	cmd := exec.Command(gorec, "run", "-o", trace, "-gorace", stub(t), "./waits")
+	cmd := gorecCommand("run", "-o", trace, "-gorace", stub(t), "./waits")
 	cmd.Dir = root + "/testdata/commands"
 	cmd.SysProcAttr = &syscall.SysProcAttr{Setpgid: true}
 	var errs bytes.Buffer

@@ -1,23 +1,25 @@
 package endtoend
 
 import (
-	"os"
 	"os/exec"
 	"path/filepath"
 	"strings"
 	"testing"
-
-	"gorace.local/recorder/internal/instrument"
-	"gorace.local/recorder/internal/load"
 )
 
 // TestTags: the program is built with the tags with which it was listed.
 func TestTags(t *testing.T) {
-	for flags, word := range map[string]string{"": "plain\n", "-tags=extra": "extra\n"} {
-		t.Setenv("GOFLAGS", flags)
-		_, errs, status := runTool(t, "run", "-gorace", stub(t), "./tagged")
-		if status != 0 || !strings.HasPrefix(errs, word) {
-			t.Errorf("%s: status %d\n%s", flags, status, errs)
+	t.Parallel()
+	for _, c := range []struct {
+		flags, word string
+		more        []string
+	}{
+		{"", "plain\n", nil}, {"-tags=extra", "extra\n", nil}, {"-tags=other", "extra\n", []string{"-tags", "extra"}},
+	} {
+		words := append(append([]string{"run", "-gorace", stub(t)}, c.more...), "./tagged")
+		_, errs, status := runWith(t, root+"/testdata/commands", []string{"GOFLAGS=" + c.flags}, words...)
+		if status != 0 || !strings.HasPrefix(errs, c.word) {
+			t.Errorf("%s %v: status %d\n%s", c.flags, c.more, status, errs)
 		}
 	}
 }
@@ -25,6 +27,7 @@ func TestTags(t *testing.T) {
 // TestFiles: a program that is named by its files may import what is internal where they are, and is
 // built whatever they say of builds.
 func TestFiles(t *testing.T) {
+	t.Parallel()
 	for file, word := range map[string]string{"inner/main.go": "2\n", "constrained/main_plan9.go": "17\n"} {
 		out, errs, status := runTool(t, "run", "-gorace", stub(t), file)
 		if status != 0 || !strings.HasPrefix(errs, word) {
@@ -33,57 +36,91 @@ func TestFiles(t *testing.T) {
 	}
 }
 
-// TestOwnName: a program that has something by the recorder's name is told of it.
-func TestOwnName(t *testing.T) {
-	out, errs, status := runTool(t, "run", "-gorace", stub(t), "./named")
-	want := "gorec: named/main.go:6: the name gorec is the recorder's; rename it\n"
-	if status != 3 || out != "" || !strings.HasPrefix(errs, want) {
-		t.Errorf("status %d\n%s%s", status, out, errs)
-	}
-}
-
 // TestSeveralPrograms: none of several is run.
 func TestSeveralPrograms(t *testing.T) {
+	t.Parallel()
 	out, errs, status := runTool(t, "run", "-gorace", stub(t), "./...")
 	if status != 3 || out != "" || !strings.Contains(errs, " are programs both; name one\n") {
 		t.Errorf("status %d\n%s%s", status, out, errs)
 	}
 }
 
-// TestAllCgo: a program in which nothing is recorded isn't run.
-func TestAllCgo(t *testing.T) {
-	p := &load.Package{Listed: &load.Listed{ImportPath: "a", Name: "main", CgoFiles: []string{"a.go"}}}
-	_, err := instrument.Packages(&load.Set{Packages: []*load.Package{p}}, "", t.TempDir(), nil)
-	if err == nil || err.Error() != "nothing can be recorded: each package has cgo" {
-		t.Error(err)
-	}
+// cgoProgram calls C, by which it gets values that Go's goroutines race for.
+var cgoProgram = map[string]string{
+	"go.mod": "module example.com/own\n\ngo 1.19\n",
+	"main.go": `package main
+
+import (
+	"fmt"
+
+	"example.com/own/c"
+)
+
+var n, m int
+
+func main() {
+	done := make(chan bool)
+	go func() { n++; n += c.One(); c.Call(func() { m++ }); done <- true }()
+	n++ // before any call of C, which Go takes for an order between all calls of C
+	n += c.One()
+	c.Call(func() { m++ })
+	<-done
+	fmt.Println(n > 0, m > 0)
+}
+`,
+	"c/c.go": `package c
+
+/*
+static int one(void) { return 1; }
+
+void call(void);
+static void back(void) { call(); }
+*/
+import "C"
+
+import "sync"
+
+var (
+	mu      sync.Mutex
+	pending func()
+)
+
+func One() int { return int(C.one()) }
+
+// Call calls f by way of C.
+func Call(f func()) {
+	mu.Lock()
+	defer mu.Unlock()
+	pending = f
+	C.back()
 }
 
-// TestOwnCgo: tests of a package that has cgo itself aren't run, and the others are.
-func TestOwnCgo(t *testing.T) {
+//export call
+func call() { pending() }
+`,
+	"c/c_test.go": "package c\n\nimport \"testing\"\n\nvar tried int\n\nfunc TestOne(t *testing.T) {\n\tdone := make(chan bool)\n\tgo func() { tried += One(); done <- true }()\n\ttried++\n\t<-done\n}\n",
+}
+
+// TestCgo: in a program with cgo what Go's code does is recorded, also where C calls it.
+func TestCgo(t *testing.T) {
+	requireJudge(t)
+	t.Parallel()
+	if _, err := exec.LookPath("gcc"); err != nil {
+		t.Skip("no C compiler, which cgo needs: ", err)
+	}
 	dir := t.TempDir()
-	for name, text := range map[string]string{
-		"go.mod":      "module example.com/own\n\ngo 1.18\n",
-		"a/a.go":      "package a\n\n// int one() { return 1; }\nimport \"C\"\n\nfunc One() int { return int(C.one()) }\n",
-		"a/a_test.go": "package a\n\nimport \"testing\"\n\nfunc TestOne(t *testing.T) {}\n",
-		"b/b.go":      "package b\n",
-		"b/b_test.go": "package b\n\nimport \"testing\"\n\nfunc TestNone(t *testing.T) {}\n",
-	} {
-		path := filepath.Join(dir, name)
-		if err := os.MkdirAll(filepath.Dir(path), 0o755); err != nil {
-			t.Fatal(err)
-		}
-		if err := os.WriteFile(path, []byte(text), 0o644); err != nil {
-			t.Fatal(err)
+	writeFiles(t, dir, cgoProgram)
+	traces := map[string]string{}
+	for variable, words := range map[string][]string{"n": {"run", "."}, "tried": {"test", "./c"}} {
+		traces[variable] = filepath.Join(dir, variable+".gotrace")
+		words = append([]string{words[0], "-gorace", stub(t), "-o", traces[variable]}, words[1:]...)
+		if out, errs, status := runWith(t, dir, []string{"CGO_ENABLED=1"}, words...); status != 0 {
+			t.Fatalf("%v: status %d\n%s%s", words, status, out, errs)
 		}
 	}
-	cmd := exec.Command(gorec, "test", "-gorace", stub(t), "./...")
-	cmd.Dir = dir
-	cmd.Env = append(os.Environ(), "CGO_ENABLED=1")
-	out, _ := cmd.CombinedOutput()
-	text := string(out)
-	if cmd.ProcessState.ExitCode() != 3 || !strings.Contains(text, "nothing of example.com/own/a can be recorded: each package has cgo\n") ||
-		!strings.Contains(text, "FAIL\texample.com/own/a [not recorded]\n") || !strings.Contains(text, "ok  \texample.com/own/b\t") {
-		t.Errorf("%v\n%s", cmd.ProcessState, text)
+	for variable, report := range judgeAll(t, traces) {
+		if err := (verdict{races: []string{variable}}).check(report); err != nil {
+			t.Errorf("%v\n%s", err, report)
+		}
 	}
 }

@@ -57,12 +57,10 @@ func newWalk(seed int64, steps int) *walk {
 		Rand: rand.New(rand.NewSource(seed)), alive: []uint32{0}, holder: map[uint32]uint32{}, readers: map[uint32][]uint32{},
 		queued: map[uint32]int{}, sent: map[uint32]uint64{}, got: map[uint32]uint64{}, closed: map[uint32]bool{},
 	}
-	for _, d := range []wire.Record{
+	w.records = []wire.Record{
 		{Op: wire.DeclareVar, Object: walkVar, Site: walkVar}, {Op: wire.DeclareLock, Object: walkMutex, Site: walkMutex},
 		{Op: wire.DeclareLock, Object: walkRW, Site: walkRW, Kind: 1}, {Op: wire.DeclareChan, Object: walkBuffer, Site: walkBuffer, Value: walkCapacity},
 		{Op: wire.DeclareChan, Object: walkMeet, Site: walkMeet}, {Op: wire.DeclareOnce, Object: walkOnce, Site: walkOnce},
-	} {
-		w.records = append(w.records, d)
 	}
 	w.objects = walkOnce
 	for i := 0; i < steps; i++ {

@@ -339,8 +339,8 @@ func TestNewer(t *testing.T) {
 			}
 		}
 		program := filepath.Join(dir, "program")
-		build(t, dir, ".", program)
-		traces[p.name] = record(t, program, "1", "0")
+		build(t, dir, program, ".")
+		traces[p.name] = record(t, dir, program, "1", "0")
 	}
 	reports := judgeAll(t, traces)
 	for _, p := range newer {

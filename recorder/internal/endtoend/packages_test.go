@@ -3,16 +3,14 @@ package endtoend
 import (
 	"encoding/json"
 	"os"
-	"os/exec"
 	"path/filepath"
 	"regexp"
-	"strconv"
 	"strings"
 	"testing"
 )
 
-// finder is a judge that tells a race on a variable where a trace has it: between its first
-// write and the next access of another goroutine.
+// finder is a judge that tells a race on a variable where a trace has it: between a write, after which its goroutine
+// starts no other, and the next access of another goroutine.
 func finder(t *testing.T, variable string) string {
 	t.Helper()
 	path := filepath.Join(t.TempDir(), "finder")
@@ -20,6 +18,7 @@ func finder(t *testing.T, variable string) string {
 exec awk -v x=` + variable + ` '
 NR == 1 || NF < 3 || $1 ~ /^(goroutine|var|chan|mutex|rwmutex|once)$/ { next }
 { event++ }
+$1 == "go" && $2 == who { who = "" }
 $1 == "write" && $3 == x && !who { who = $2; first = "write by " $2 " at " $5 " (event " event ")"; next }
 ($1 == "read" || $1 == "write") && $3 == x && who && $2 != who && !told {
 	print "race on " x ": " first ", " $1 " by " $2 " at " $5 " (event " event ")"; print "races: 1"; told = 1
@@ -32,16 +31,10 @@ END { if (told) exit 66; print "clean: " event " events, 0 accesses" }'
 	return path
 }
 
-// runService runs gorec in the folder of the example service, with a home of its own.
+// runService runs gorec in the folder of the example service.
 func runService(t *testing.T, env []string, args ...string) (stdout, stderr string, status int) {
 	t.Helper()
-	var out, errs strings.Builder
-	cmd := exec.Command(gorec, args...)
-	cmd.Dir = root + "/testdata/service"
-	cmd.Env = append(os.Environ(), env...)
-	cmd.Stdout, cmd.Stderr = &out, &errs
-	cmd.Run()
-	return out.String(), errs.String(), cmd.ProcessState.ExitCode()
+	return runWith(t, root+"/testdata/service", env, args...)
 }
 
 var seconds = regexp.MustCompile(`\t\d+\.\d+s`)
@@ -69,20 +62,20 @@ func TestPackages(t *testing.T) {
 		{"./...", finder(t, "Store_sold"), `ok  	example.com/service/bank	N
 FAIL	example.com/service/broken [build failed]
 ?   	example.com/service/plain	[no test files]
-RACE	example.com/service/store	N	races: 1
+FAIL	example.com/service/store	N
 FAIL	example.com/service/wrong	N`, 66},
 		{"-p 2 ./... -run Pay|Sell", stub(t), `ok  	example.com/service/bank	N
 FAIL	example.com/service/broken [build failed]
 ?   	example.com/service/plain	[no test files]
 ok  	example.com/service/store	N
-ok  	example.com/service/wrong	N	[no tests to run]`, 3},
+ok  	example.com/service/wrong	N [no tests to run]`, 3},
 		{"./bank ./wrong ./plain", stub(t), `ok  	example.com/service/bank	N
-?   	example.com/service/plain	[no test files]
-FAIL	example.com/service/wrong	N`, 21},
-		{"./store ./bank -run Sell -v", stub(t), `ok  	example.com/service/bank	N	[no tests to run]
-ok  	example.com/service/store	N`, 0},
+FAIL	example.com/service/wrong	N
+?   	example.com/service/plain	[no test files]`, 21},
+		{"./store ./bank -run Sell -v", stub(t), `ok  	example.com/service/store	N
+ok  	example.com/service/bank	N [no tests to run]`, 0},
 		{"./plain", stub(t), "?   	example.com/service/plain	[no test files]", 0},
-		{"./bank -run Nothing", stub(t), "ok  	example.com/service/bank	N	[no tests to run]", 0},
+		{"./bank -run Nothing", stub(t), "ok  	example.com/service/bank	N [no tests to run]", 0},
 		{"./bank", judgeSaying(t, filepath.Join(t.TempDir(), "illegal"), "illegal: event 5: stale read", 1), "FAIL	example.com/service/bank	N", 1},
 	} {
 		args := append([]string{"test", "-gorace", c.judge}, strings.Fields(c.words)...)
@@ -118,20 +111,6 @@ func TestListsOfTests(t *testing.T) {
 	}
 }
 
-// TestStandardPackages: of the standard library nothing is recorded, and so nothing is run.
-func TestStandardPackages(t *testing.T) {
-	t.Parallel()
-	cache := []string{"XDG_CACHE_HOME=" + t.TempDir()}
-	const why = "nothing of errors can be recorded: it is in the standard library\n"
-	out, errs, status := runService(t, cache, "test", "-gorace", stub(t), "errors", "./bank")
-	if status != 3 || !strings.Contains(out, why+"FAIL\terrors [not recorded]\n") || !strings.Contains(out, "ok  \texample.com/service/bank\t") {
-		t.Errorf("status %d\n%s%s", status, out, errs)
-	}
-	if out, errs, status = runService(t, cache, "test", "-gorace", stub(t), "errors"); status != 3 || errs != "gorec: "+why {
-		t.Errorf("status %d\n%s%s", status, out, errs)
-	}
-}
-
 // TestExplained: behind the report stands what each of the two last synchronized by, and how
 // the race is drawn; the trace is where that says.
 func TestExplained(t *testing.T) {
@@ -141,7 +120,7 @@ func TestExplained(t *testing.T) {
 	out, _, _ := runService(t, []string{"XDG_CACHE_HOME=" + cache}, "test", "-gorace", judge, "./store")
 	kept := filepath.Join(cache, "gorec", "example.com_service_store.test.gotrace")
 	for _, want := range []string{
-		"'s write of Store_sold: without a lock, after unlock of Account_mu at bank/bank.go:16\n",
+		"'s write of Store_sold: without a lock, after unlock of Store_account_mu at bank/bank.go:16\n",
 		"\ngorec: to see why: " + judge + " draw Store_sold < " + kept + "\n",
 	} {
 		if !strings.Contains(out, want) {
@@ -207,53 +186,42 @@ exit 66
 	}
 }
 
-// TestJSON: each line is an object; a race has both its accesses, and each package a verdict.
+// TestJSON: each line is an object; a race has both its accesses, and last comes the verdict.
 func TestJSON(t *testing.T) {
 	t.Parallel()
-	out, errs, status := runService(t, nil, "test", "-json", "-o", t.TempDir(), "-gorace", finder(t, "Store_sold"), "./...")
-	if status != 66 {
-		t.Errorf("status %d\n%s", status, errs)
-	}
+	out, errs, status := runIn(t, programs, "run", "-json", "-o", filepath.Join(t.TempDir(), "t"), "-gorace", finder(t, "Counter_n"), "./counter")
 	type access struct {
 		Kind, Goroutine, Place, Behind string
 		Event                          int
 		Started                        *struct{ By, Place string }
 	}
-	last := map[string]string{}
-	for _, line := range strings.Split(strings.TrimSpace(out), "\n") {
-		var e struct {
-			Action, Package, Output string
-			Race                    *struct {
-				Variable string
-				Accesses []access
-			}
-			Verdict *struct {
-				Status, Races int
-				Told, Trace   string
-			}
+	var last struct {
+		Action string
+		Race   *struct {
+			Variable string
+			Accesses []access
 		}
-		if err := json.Unmarshal([]byte(line), &e); err != nil {
-			t.Fatalf("%v: %s", err, line)
-		}
-		switch {
-		case e.Action == "race":
-			a := e.Race.Accesses
-			if e.Race.Variable != "Store_sold" || len(a) != 2 || a[0].Kind != "write" || a[0].Place != "store/store.go:15" ||
-				a[0].Event == 0 || a[0].Started.Place != "store/store_test.go:13" || !strings.Contains(a[1].Behind, "Account_mu") {
-				t.Errorf("the race: %s", line)
-			}
-		case e.Verdict != nil:
-			last[e.Package] = e.Action + " " + strconv.Itoa(e.Verdict.Status) + " " + e.Verdict.Told
-			if _, err := os.Stat(e.Verdict.Trace); e.Verdict.Races > 0 && err != nil {
-				t.Error(err)
-			}
+		Verdict *struct {
+			Status, Races int
+			Trace         string
 		}
 	}
-	for name, want := range map[string]string{
-		"bank": "pass 0 ", "broken": "fail 3 build failed", "plain": "skip 0 no test files", "store": "racing 66 ", "wrong": "fail 21 ",
-	} {
-		if got := last["example.com/service/"+name]; got != want {
-			t.Errorf("%s: %s", name, got)
+	races := 0
+	for _, line := range strings.Split(strings.TrimSpace(out), "\n") {
+		last.Race, last.Verdict = nil, nil
+		if err := json.Unmarshal([]byte(line), &last); err != nil {
+			t.Fatalf("%v: %s", err, line)
 		}
+		if last.Race == nil {
+			continue
+		}
+		races++
+		a := last.Race.Accesses
+		if last.Action != "race" || len(a) != 2 || a[0].Kind != "write" || a[0].Event == 0 || !strings.HasPrefix(a[0].Place, "counter/main.go:") || a[0].Behind == "" {
+			t.Errorf("the race: %s", line)
+		}
+	}
+	if v := last.Verdict; status != 66 || races != 1 || last.Action != "racing" || v == nil || v.Status != 66 || v.Races != 1 {
+		t.Errorf("status %d, %d races\n%s%s", status, races, out, errs)
 	}
 }

@@ -4,6 +4,7 @@ import (
 	"os"
 	"os/exec"
 	"path/filepath"
+	"regexp"
 	"sort"
 	"strings"
 	"testing"
@@ -23,28 +24,23 @@ func writeFiles(t *testing.T, dir string, files map[string]string) {
 	}
 }
 
-const counting = "\n\nvar N int\n\nfunc Count() { go func() { N++ }(); N++ }\n"
+const counting = "\n\nvar N int\n\nfunc Count() { c := make(chan bool); go func() { N++; c <- true }(); N++; <-c }\n"
 
-// filesOf builds a program, and answers the files that its sites name.
+// filesOf runs a program, and answers the files that its trace names.
 func filesOf(t *testing.T, dir string, env ...string) string {
 	t.Helper()
-	program := filepath.Join(t.TempDir(), "program")
-	cmd := exec.Command(gorec, "build", "-o", program, ".")
-	cmd.Dir = dir
-	cmd.Env = append(append(os.Environ(), "PWD="+dir), env...)
-	if out, err := cmd.CombinedOutput(); err != nil {
-		t.Fatalf("%v\n%s", err, out)
+	trace := filepath.Join(t.TempDir(), "run.gotrace")
+	out, errs, status := runWith(t, dir, append([]string{"PWD=" + dir}, env...), "run", "-all", "-gorace", stub(t), "-o", trace, ".")
+	if status != 0 {
+		t.Fatalf("status %d\n%s%s", status, out, errs)
 	}
-	b, err := os.ReadFile(program + ".sites")
+	text, err := os.ReadFile(trace)
 	if err != nil {
 		t.Fatal(err)
 	}
 	is := map[string]bool{}
-	for _, line := range strings.Split(string(b), "\n") {
-		place, _, _ := strings.Cut(line, "\t")
-		if file, _, ok := strings.Cut(place, ":"); ok {
-			is[file] = true
-		}
+	for _, m := range place.FindAllSubmatch(text, -1) {
+		is[string(m[1])] = true
 	}
 	var files []string
 	for f := range is {
@@ -54,11 +50,15 @@ func filesOf(t *testing.T, dir string, env ...string) string {
 	return strings.Join(files, " ")
 }
 
+// place is that of an event of a trace, in a file of the program's.
+var place = regexp.MustCompile(`(?m) (\S+main\.go|main\.go):\d+$`)
+
 // TestPlaces: a place is relative to the folder one is in, as the command go prints it, and no
 // two files have one name.
 func TestPlaces(t *testing.T) {
+	t.Parallel()
 	main := func(path string) string {
-		return "package main\n\nimport \"" + path + "\"\n\nvar n int\n\nfunc main() { n++; util.Count() }\n"
+		return "package main\n\nimport \"" + path + "\"\n\nfunc main() { go util.Count(); util.Count() }\n"
 	}
 	util := "package util" + counting
 
@@ -99,6 +99,7 @@ func TestPlaces(t *testing.T) {
 // TestOwnFiles: a program finds its own files, and panics name them; so does one that a tool
 // made of another file.
 func TestOwnFiles(t *testing.T) {
+	t.Parallel()
 	dir := t.TempDir()
 	writeFiles(t, dir, map[string]string{
 		"go.mod": "module example.com/own\n\ngo 1.19\n",
@@ -106,17 +107,16 @@ func TestOwnFiles(t *testing.T) {
 			"\tfmt.Println(file, line, runtime.GOROOT())\n\tmade()\n}\n",
 		"made.go": "package main\n\n//line grammar.y:7\nfunc made() { panic(\"made\") }\n",
 	})
-	cmd := exec.Command(gorec, "run", "-o", filepath.Join(dir, "t"), "-gorace", stub(t), ".")
-	cmd.Dir = dir
-	out, _ := cmd.CombinedOutput()
+	out, errs, _ := runIn(t, dir, "run", "-o", filepath.Join(dir, "t"), "-gorace", stub(t), ".")
+	out += errs
 	goroot, err := exec.Command("go", "env", "GOROOT").Output()
 	if err != nil {
 		t.Fatal(err)
 	}
 	for _, want := range []string{
-		filepath.Join(dir, "main.go") + " 9 " + string(goroot), filepath.Join(dir, "main.go") + ":11 ", filepath.Join(dir, "grammar.y") + ":7\n",
+		filepath.Join(dir, "main.go") + " 9 " + string(goroot), filepath.Join(dir, "main.go") + ":11 ", "grammar.y:7\n",
 	} {
-		if !strings.Contains(string(out), want) {
+		if !strings.Contains(out, want) {
 			t.Errorf("no %s in\n%s", want, out)
 		}
 	}

@@ -70,32 +70,16 @@ func lookForOtherOrders(t *testing.T, command string, traces map[string]string, 
 // recordHiding answers the traces by their runs, and what each program hides.
 func recordHiding(t *testing.T) (traces map[string]string, hides map[string][]string) {
 	t.Helper()
-	entries, err := os.ReadDir(hiding)
-	if err != nil {
-		t.Fatal(err)
-	}
 	traces, hides = map[string]string{}, map[string][]string{}
-	dir := t.TempDir()
+	built := buildAll(t, hiding)
 	var mu sync.Mutex
-	t.Run("record", func(t *testing.T) {
-		for _, e := range entries {
-			name := e.Name()
-			if !e.IsDir() || name == "side" {
-				continue
-			}
-			hides[name] = readHidden(t, filepath.Join(hiding, name, "main.go"))
-			t.Run(name, func(t *testing.T) {
-				t.Parallel()
-				program := filepath.Join(dir, name)
-				build(t, hiding, "./"+name, program)
-				for _, seed := range seeds {
-					log := runRecorded(t, program, seed, "0", "GOREC_FORMAT=2")
-					path := writeTrace(t, log, program, "-predict")
-					mu.Lock()
-					traces[name+"."+seed] = path
-					mu.Unlock()
-				}
-			})
+	eachOf(t, hiding, func(t *testing.T, name string) {
+		hidden := readHidden(t, filepath.Join(hiding, name, "main.go"))
+		for _, seed := range seeds {
+			trace := record(t, hiding, filepath.Join(built, name), seed, "0", "-predict")
+			mu.Lock()
+			hides[name], traces[name+"."+seed] = hidden, trace
+			mu.Unlock()
 		}
 	})
 	return traces, hides
@@ -114,7 +98,7 @@ func readHidden(t *testing.T, path string) []string {
 	case "clean":
 		return nil
 	case "hides":
-		return []string{list}
+		return strings.Split(list, ", ")
 	}
 	t.Fatalf("%s: no verdict: %s", path, head)
 	return nil
@@ -131,7 +115,7 @@ func TestRunPredict(t *testing.T) {
 	trace := filepath.Join(t.TempDir(), "run.gotrace")
 	var out []byte
 	for i := 0; i < 10 && !bytes.Contains(out, []byte("\nclean: ")); i++ { // on a busy machine the second goroutine may be first
-		cmd := exec.Command(gorec, "run", "-predict", "-seed", "1", "-o", trace, "-gorace", *judgeFlag, "./mapput")
+		cmd := gorecCommand("run", "-predict", "-seed", "1", "-o", trace, "-gorace", *judgeFlag, "./mapput")
 		cmd.Dir = hiding
 		out, _ = cmd.CombinedOutput()
 		if status := cmd.ProcessState.ExitCode(); status != 66 {
@@ -188,6 +172,7 @@ func predictor(t *testing.T, variable string) string {
 exec awk -v x=` + variable + ` '
 NR == 1 || NF < 3 || $1 ~ /^(goroutine|var|chan|mutex|rwmutex|once)$/ { next }
 { event++ }
+$1 == "go" && $2 == who { who = "" }
 $1 == "write" && $3 == x && !who { who = $2; first = "write by " $2 " at " $5 " (event " event ")"; next }
 $1 == "write" && $3 == x && $2 != who && !told { told = first ", write by " $2 " at " $5 " (event " event ")" }
 END { print "clean: " event " events, 0 accesses"; if (told) { print "predicted race on " x ": " told; print "predicted: 1"; exit 66 }; print "predicted: 0" }'
@@ -273,11 +258,12 @@ func TestPredictJSON(t *testing.T) {
 	}
 }
 
-// TestPredictOfTests: the line of a package counts predicted races too.
+// TestPredictOfTests: a package with predicted races alone fails too, and they are counted.
 func TestPredictOfTests(t *testing.T) {
 	t.Parallel()
 	out, errs, status := runService(t, nil, "test", "-predict", "-o", t.TempDir(), "-gorace", predictor(t, "Store_sold"), "./...")
-	if status != 66 || !regexp.MustCompile(`RACE\texample.com/service/store\t\S+\traces: 0, predicted: 1\n`).MatchString(out) {
+	if status != 66 || !strings.Contains(out, "FAIL\texample.com/service/store\t") || !strings.Contains(out, "--- FAIL: TestSell") ||
+		!strings.Contains(errs, "gorec: example.com/service/store: races: 0, predicted: 1\n") {
 		t.Errorf("status %d\n%s%s", status, out, errs)
 	}
 }

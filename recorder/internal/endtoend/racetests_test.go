@@ -1,11 +1,11 @@
 package endtoend
 
 import (
-	"bytes"
 	"flag"
 	"os"
 	"os/exec"
 	"path/filepath"
+	"runtime"
 	"sort"
 	"strings"
 	"testing"
@@ -32,13 +32,7 @@ func TestGoRaceTests(t *testing.T) {
 	dir := t.TempDir()
 	copyRaceTests(t, dir)
 	program := filepath.Join(dir, "tests")
-	cmd := exec.Command(gorec, "build", "-force", "-tests", "-o", program, ".")
-	cmd.Dir = dir
-	if out, err := cmd.CombinedOutput(); err != nil {
-		t.Fatalf("%v\n%s", err, out)
-	} else {
-		t.Logf("%s", out)
-	}
+	build(t, dir, program, "-tests", ".")
 	names := listTests(t, program)
 	traces := map[string]string{}
 	for _, name := range names {
@@ -84,7 +78,7 @@ func compare(t *testing.T, names []string, raced map[string]bool) {
 	t.Logf("%d of %d tests have Go's verdict", same, len(names))
 }
 
-// races: a race of the report isn't that of the package's initialization (the variable x
+// races: a race of the report isn't that of the package's initialization (the field x
 // of regression_test.go), which each run has.
 func races(report string) bool { return tells(report, "race on ") }
 
@@ -93,15 +87,14 @@ func predicted(report string) bool { return tells(report, "predicted race on ") 
 
 func tells(report, begin string) bool {
 	for _, line := range strings.Split(report, "\n") {
-		if strings.HasPrefix(line, begin) && !strings.HasPrefix(line, begin+"l_x: ") {
+		if strings.HasPrefix(line, begin) && !strings.HasPrefix(line, begin+"LogImpl_x: ") {
 			return true
 		}
 	}
 	return false
 }
 
-// copyRaceTests makes a module of the tests but for those with cgo. RaceDisable, which one of
-// them calls, is there only with -race.
+// copyRaceTests makes a module of the tests but for those with cgo.
 func copyRaceTests(t *testing.T, dir string) {
 	t.Helper()
 	files, err := filepath.Glob(filepath.Join(*raceTests, "*_test.go"))
@@ -116,7 +109,6 @@ func copyRaceTests(t *testing.T, dir string) {
 		if strings.Contains(filepath.Base(f), "cgo") {
 			continue
 		}
-		b = bytes.ReplaceAll(b, []byte("runtime.RaceDisable()"), nil)
 		if err := os.WriteFile(filepath.Join(dir, filepath.Base(f)), b, 0o644); err != nil {
 			t.Fatal(err)
 		}
@@ -124,6 +116,12 @@ func copyRaceTests(t *testing.T, dir string) {
 	if err := os.WriteFile(filepath.Join(dir, "go.mod"), []byte("module example.com/racetests\n\n"+goLine()+"\n"), 0o644); err != nil {
 		t.Fatal(err)
 	}
+}
+
+// goLine is that of the version of Go which runs the tests.
+func goLine() string {
+	words := strings.Split(strings.TrimPrefix(runtime.Version(), "go"), ".")
+	return "go " + words[0] + "." + words[1]
 }
 
 // listTests names the tests of a program that was built.
@@ -141,19 +139,11 @@ func listTests(t *testing.T, program string) []string {
 // recordTest runs one test, which may end in any way, and answers the file with its trace.
 func recordTest(t *testing.T, dir, program, name, seed string) string {
 	t.Helper()
-	log := filepath.Join(dir, "log")
-	cmd := exec.Command(program, "-test.run", "^"+name+"$", "-test.timeout", "20s")
-	cmd.Dir = dir
-	cmd.Env = append(os.Environ(), "GOREC_LOG="+log, "GOREC_SEED="+seed, "GOREC_FORMAT=2")
-	cmd.Run()
-	text, err := exec.Command(gorec, "trace", "-predict", log, program+".sites").Output()
-	os.Remove(log)
-	if err != nil {
-		t.Fatalf("%s: %v", name, err)
+	trace := filepath.Join(dir, name+"."+seed+".gotrace")
+	_, errs, _ := runIn(t, dir, "exec", "-gorace", stub(t), "-seed", seed, "-predict", "-o", trace, program,
+		"-test.run", "^"+name+"$", "-test.timeout", "20s")
+	if _, err := os.Stat(trace); err != nil {
+		t.Fatalf("%s: %v\n%s", name, err, errs)
 	}
-	path := filepath.Join(dir, name+"."+seed+".gotrace")
-	if err := os.WriteFile(path, text, 0o644); err != nil {
-		t.Fatal(err)
-	}
-	return path
+	return trace
 }

@@ -1,21 +1,15 @@
 package endtoend
 
 import (
-	"bytes"
 	"flag"
 	"fmt"
 	"math/rand"
 	"os"
-	"os/exec"
 	"path/filepath"
 	"regexp"
 	"sort"
 	"strings"
 	"testing"
-	"time"
-
-	"gorace.local/recorder/internal/sites"
-	"gorace.local/recorder/internal/trace"
 )
 
 var (
@@ -62,7 +56,7 @@ func recordRandom(t *testing.T, first, end int64) {
 	writeFile(t, filepath.Join(dir, "gadgets.go"), sources)
 	writeFile(t, filepath.Join(dir, "main.go"), cases+"}\n}\natomic.AddInt64(&other, 1)\nwg.Wait()\n}\n")
 	program := filepath.Join(dir, "program")
-	build(t, dir, ".", program)
+	build(t, dir, program, ".")
 	for seed := first; seed < end; seed++ {
 		p := pickProgram(seed, all)
 		if !t.Run(fmt.Sprint("seed", seed), func(t *testing.T) { p.check(t, program) }) {
@@ -78,22 +72,21 @@ func writeFile(t *testing.T, path, text string) {
 	}
 }
 
-// check records the gadgets of a program, whole and in parts.
+// check records the gadgets of a program, whole and in segments.
 func (p *randomProgram) check(t *testing.T, program string) {
 	t.Helper()
-	picked, seed := "GADGETS="+p.picked, fmt.Sprint(p.seed)
+	dir, seed := t.TempDir(), fmt.Sprint(p.seed)
 	traces := map[string]string{}
-	for _, every := range []string{"0", "1"} {
-		log := runRecorded(t, program, seed, "0", picked, "GOREC_ALL="+every)
-		traces[every] = rename(t, writeTrace(t, log, program), every)
-		os.Remove(log)
+	for _, all := range []string{"false", "true"} {
+		traces[all] = filepath.Join(dir, "all."+all)
+		p.record(t, program, stub(t), "-seed", seed, "-all="+all, "-o", traces[all])
 	}
-	for every, report := range judgeAll(t, traces) {
+	for all, report := range judgeAll(t, traces) {
 		if got := racyOnes(report); got != p.racy {
-			t.Errorf("all %s: races on %s, not on %s\n%s", every, got, p.racy, report)
+			t.Errorf("all %s: races on %s, not on %s\n%s", all, got, p.racy, report)
 		}
 	}
-	segments := recordParts(t, program, program+".parts."+seed, 150+int(p.seed*37%300), 25+int(p.seed*11%200), picked, "GOREC_SEED="+seed)
+	segments := p.recordSegments(t, program, dir)
 	for segment, report := range judgeAll(t, segments) {
 		for _, got := range strings.Fields(racyOnes(report)) {
 			if !strings.Contains(" "+p.racy+" ", " "+got+" ") {
@@ -104,85 +97,35 @@ func (p *randomProgram) check(t *testing.T, program string) {
 	t.Logf("%d segments", len(segments))
 }
 
-// recordParts runs a program whose log has short parts, and writes their traces in short
-// segments. Races between segments aren't told, but no race is told that is none.
-func recordParts(t *testing.T, program, log string, part, events int, env ...string) map[string]string {
+// record runs the program with its gadgets.
+func (p *randomProgram) record(t *testing.T, program, judge string, words ...string) {
 	t.Helper()
-	table, err := sites.Read(program + ".sites")
-	if err != nil {
-		t.Fatal(err)
-	}
-	cmd := exec.Command(program)
-	cmd.Env = append(append(os.Environ(), "GOREC_LOG="+log, fmt.Sprintf("GOREC_PART=%d", part)), env...)
-	var output bytes.Buffer
-	cmd.Stdout, cmd.Stderr = &output, &output
-	if err := cmd.Start(); err != nil {
-		t.Fatal(err)
-	}
-	ended := make(chan error, 1)
-	go func() { ended <- cmd.Wait() }()
-	traces := map[string]string{}
-	over := false
-	for i := 0; ; {
-		path := log
-		if i > 0 {
-			path = fmt.Sprintf("%s.%d", log, i)
-		}
-		l, err := trace.Open(path)
-		if err == nil && (over || l.GoesOn()) {
-			goesOn := l.GoesOn()
-			writeSegments(t, l, table, events, fmt.Sprintf("%s.%d", log, i), traces)
-			l.Done()
-			l.Close()
-			if i++; goesOn {
-				continue
-			}
-			return traces
-		}
-		select {
-		case err := <-ended:
-			if over = true; err != nil {
-				t.Errorf("%s: %v\n%s", program, err, output.String())
-			}
-		case <-time.After(time.Millisecond):
-			if over {
-				t.Fatalf("no log %s", path)
-			}
-		}
+	words = append(append([]string{"exec", "-gorace", judge}, words...), program)
+	out, errs, status := runWith(t, filepath.Dir(program), []string{"GADGETS=" + p.picked}, words...)
+	if status != 0 {
+		t.Errorf("%v: status %d\n%s%s", words, status, out, errs)
 	}
 }
 
-func writeSegments(t *testing.T, l *trace.Log, table sites.Table, events int, name string, traces map[string]string) {
+// recordSegments records the program in short segments, and answers their traces. Races between segments aren't told, but no
+// race is told that is none.
+func (p *randomProgram) recordSegments(t *testing.T, program, dir string) (segments map[string]string) {
 	t.Helper()
-	options := trace.Options{Version: l.Version(), Events: events}
-	records, err := l.Records()
-	if err != nil {
+	keeper := filepath.Join(dir, "keeper")
+	script := "#!/bin/sh\ncat >" + dir + "/segment.$$\necho 'clean: 0 events, 0 accesses'\n"
+	if err := os.WriteFile(keeper, []byte(script), 0o755); err != nil {
 		t.Fatal(err)
 	}
-	s := trace.NewSegments(records, options)
-	for k := 0; ; k++ {
-		path := fmt.Sprintf("%s.%d.gotrace", name, k)
-		f, err := os.Create(path)
-		if err != nil {
-			t.Fatal(err)
-		}
-		if _, err := s.Write(table, options, f); err != nil {
-			t.Fatal(err)
-		}
-		f.Close()
-		traces[filepath.Base(path)] = path
-		if !s.Next() {
-			return
-		}
+	p.record(t, program, keeper, "-seed", fmt.Sprint(p.seed), "-all", "-records", "1024", "-o", os.DevNull)
+	files, err := filepath.Glob(dir + "/segment.*")
+	if err != nil || len(files) == 0 {
+		t.Errorf("%d segments: %v", len(files), err)
 	}
-}
-
-func rename(t *testing.T, path, more string) string {
-	t.Helper()
-	if err := os.Rename(path, path+more); err != nil {
-		t.Fatal(err)
+	segments = map[string]string{}
+	for _, f := range files {
+		segments[filepath.Base(f)] = f
 	}
-	return path + more
+	return segments
 }
 
 var gadgetName = regexp.MustCompile(`q(\d+)q`)
@@ -472,7 +415,7 @@ func makeGadgets(seed int64, count int) []gadget {
 		if m.form.local != "" {
 			m.write("use(&%s)", strings.TrimSuffix(strings.Fields(strings.TrimPrefix(m.number(m.form.local), "var "))[0], ":="))
 		}
-		racy := m.Intn(2) == 0
+		racy := m.Intn(2) == 0 && !strings.Contains(m.form.local, "map[") // two changes of a map at once end a program
 		if racy {
 			racing[m.Intn(len(racing))](m)
 		} else {

@@ -24,8 +24,14 @@ type output struct {
 // temporary files.
 func waiting(t *testing.T, errs *strings.Builder) (cmd *exec.Cmd, out output, pid int, folder string) {
 	t.Helper()
+	return waitingFor(t, errs, "run", "-gorace", stub(t), "./waits", "tell")
+}
+
+// waitingFor is waiting with other words for gorec.
+func waitingFor(t *testing.T, errs *strings.Builder, words ...string) (cmd *exec.Cmd, out output, pid int, folder string) {
+	t.Helper()
 	folder = t.TempDir()
-	cmd = exec.Command(gorec, "run", "-gorace", stub(t), "./waits", "tell")
+	cmd = gorecCommand(words...)
 	cmd.Dir = root + "/testdata/commands"
 	cmd.Env = append(os.Environ(), "TMPDIR="+folder, "XDG_CACHE_HOME="+t.TempDir())
 	cmd.SysProcAttr = &syscall.SysProcAttr{Setpgid: true}
@@ -79,7 +85,7 @@ func TestKilled(t *testing.T) {
 	if err := os.Chtimes(left[0], old, old); err != nil {
 		t.Fatal(err)
 	}
-	next := exec.Command(gorec, "run", "-o", "/dev/null", "-gorace", stub(t), "./runs")
+	next := gorecCommand("run", "-o", "/dev/null", "-gorace", stub(t), "./runs")
 	next.Dir = root + "/testdata/commands"
 	next.Env = append(os.Environ(), "TMPDIR="+folder)
 	if out, err := next.CombinedOutput(); err != nil {

@@ -11,39 +11,46 @@ import (
 // TestStatuses: 0 is said only of a whole trace of a program that didn't fail; what the judge
 // finds comes before both.
 func TestStatuses(t *testing.T) {
+	t.Parallel()
 	clean := stub(t)
 	racing := judgeSaying(t, filepath.Join(t.TempDir(), "racing"), "races: 1", 66)
 	illegal := judgeSaying(t, filepath.Join(t.TempDir(), "illegal"), "illegal: event 5: stale read", 1)
 	silent := judgeSaying(t, filepath.Join(t.TempDir(), "silent"), "races, or none", 0)
 	for _, c := range []struct {
-		judge  string
-		args   []string
-		status int
-		told   string
+		judge, words string
+		status       int
+		told         string
 	}{
-		{clean, []string{"run", "./cut"}, 20, "gorec: the trace is cut off after "},
-		{racing, []string{"run", "./cut"}, 66, "gorec: the trace is cut off after "},
-		{clean, []string{"run", "./fails"}, 21, "gorec: the program ended with exit status 1\n"},
-		{racing, []string{"run", "./fails", "racing"}, 66, "gorec: the program ended with exit status 1\n"},
-		{illegal, []string{"run", "./fails"}, 1, "gorec: the program ended with exit status 1\n"},
-		{clean, []string{"test", "./fails", "-test.run", "Fails"}, 21, "--- FAIL: TestFails"},
-		{clean, []string{"test", "./fails", "-run", "Fails", "-v"}, 21, "--- FAIL: TestFails"},
-		{clean, []string{"test", "./fails", "-test.run", "Passes"}, 0, "PASS\n"},
-		{clean, []string{"test", "./fails", "-run", "Passes", "-v"}, 0, "--- PASS: TestPasses"},
-		{clean, []string{"test", "./fails", "-race"}, 3, "gorec: test: -race is a flag of go test that gorec doesn't have"},
-		{clean, []string{"build", "-tests", "-o", "/dev/null", "./runs"}, 3, "gorec: there are no test files in ./runs\n"},
-		{clean, []string{"run", "./library"}, 3, "gorec: there is no package main in ./library\n"},
-		{silent, []string{"run", "./runs"}, 3, " ended with 0 and didn't say that it is clean\n"},
-		{silent, []string{"test", "./fails", "-run", "Passes"}, 3, " ended with 0 and didn't say that it is clean\n"},
-		{clean, []string{"test", "./fails", "-none"}, 21, "flag provided but not defined: -none"},
+		{clean, "run ./runs", 0, "ran\nclean: "},
+		{clean, "run ./cut", 20, "gorec: the trace is cut off after "},
+		{racing, "run ./cut", 66, "gorec: the trace is cut off after "},
+		{clean, "run ./fails", 21, "gorec: the program ended with exit status 1\n"},
+		{racing, "run ./fails racing", 66, "gorec: the program ended with exit status 1\n"},
+		{illegal, "run ./fails", 1, "gorec: the program ended with exit status 1\n"},
+		{silent, "run ./runs", 3, " ended with 0 and didn't say that it is clean\n"},
+		{clean, "run -v -race -tags extra ./tagged", 0, "extra\n"},
+		{clean, "run ./library", 3, "gorec: "},
+		{clean, "run ./runs ./fails", 0, "ran\n"}, // the second word is the program's
+		{clean, "exec /bin/true", 3, "gorec: the program left no record: it wasn't built by gorec"},
+		{clean, "test ./fails", 21, "--- FAIL: TestFails"},
+		{clean, "test ./fails -test.run Fails", 21, "--- FAIL: TestFails"},
+		{clean, "test -run Passes ./fails", 0, "ok  \t"},
+		{clean, "test ./fails -run Passes -v -race", 0, "--- PASS: TestPasses"},
+		{racing, "test ./fails -run Passes", 66, "FAIL\texample.com/commands/fails\t"},
+		{illegal, "test ./fails -run Passes", 1, "FAIL\texample.com/commands/fails\t"},
+		{silent, "test ./fails -run Passes", 3, "not judged\n"},
+		{clean, "test ./fails -none", 21, "flag provided but not defined: -none"},
+		{clean, "test -exec env ./fails", 3, "gorec: test: -exec: the programs are run by gorec exec"},
+		{clean, "test ./none", 3, "none"},
+		{clean, "build ./runs", 3, "-o has to name the program"},
 	} {
-		args := c.args
+		args := strings.Fields(c.words)
 		if args[0] != "build" {
 			args = append([]string{args[0], "-gorace", c.judge}, args[1:]...)
 		}
 		out, errs, status := runTool(t, args...)
 		if status != c.status || !strings.Contains(out+errs, c.told) {
-			t.Errorf("%v: status %d, not %d\n%s%s", c.args, status, c.status, out, errs)
+			t.Errorf("%s: status %d, not %d\n%s%s", c.words, status, c.status, out, errs)
 		}
 	}
 }
@@ -51,6 +58,7 @@ func TestStatuses(t *testing.T) {
 // TestRacesBeforeAFailure: what is found in a run's first part counts, though a later one can't be
 // judged.
 func TestRacesBeforeAFailure(t *testing.T) {
+	t.Parallel()
 	judge := filepath.Join(t.TempDir(), "once")
 	script := `#!/bin/sh
 cat >/dev/null

@@ -2,7 +2,6 @@ package endtoend
 
 import (
 	"os"
-	"os/exec"
 	"path/filepath"
 	"strings"
 	"testing"
@@ -58,28 +57,6 @@ func TestRefusedBeforeTheRun(t *testing.T) {
 		}
 		if name != "" {
 			os.Unsetenv(name)
-		}
-	}
-}
-
-// TestVariablesOfAProgram: a program that was built refuses them too, before it begins.
-func TestVariablesOfAProgram(t *testing.T) {
-	program := filepath.Join(t.TempDir(), "runs")
-	if _, errs, status := runTool(t, "build", "-o", program, "./runs"); status != 0 {
-		t.Fatal(errs)
-	}
-	for _, c := range []struct{ variable, told string }{
-		{"GOREC_FORMAT=0", "GOREC_FORMAT is no version of a trace: 0"},
-		{"GOREC_FORMAT=3", "GOREC_FORMAT is no version of a trace: 3"},
-		{"GOREC_FORMAT=two", "GOREC_FORMAT is no version of a trace: two"},
-		{"GOREC_SEED=-1", "GOREC_SEED is no number from 0 to 4294967295: -1"},
-		{"GOREC_SEED=4294967296", "GOREC_SEED is no number from 0 to 4294967295: 4294967296"},
-	} {
-		cmd := exec.Command(program)
-		cmd.Env = append(os.Environ(), "GOREC_LOG="+program+".log", c.variable)
-		out, _ := cmd.CombinedOutput()
-		if string(out) != "gorec: no log: "+c.told+"\n" || cmd.ProcessState.ExitCode() != 3 {
-			t.Errorf("%s: status %d\n%s", c.variable, cmd.ProcessState.ExitCode(), out)
 		}
 	}
 }

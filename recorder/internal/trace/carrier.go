@@ -4,12 +4,12 @@ import "gorace.local/recorder/wire"
 
 // standing is the state of a channel, a lock or a once where a segment ends.
 type standing struct {
-	declared       wire.Record
-	held           bool
-	readers        int
-	sent, received uint64
-	closed         bool
-	begun, ended   bool
+	declared     wire.Record
+	held         bool
+	readers      int
+	waiting      []wire.Record // the sends of what is in the buffer
+	closed       bool
+	begun, ended bool
 }
 
 // carrier carries the state of what is used further from segment to segment.
@@ -58,9 +58,11 @@ func (c *carrier) change(o *standing, r *wire.Record) {
 	case wire.ReadUnlock:
 		o.readers--
 	case wire.Send:
-		o.sent = r.Value
+		o.waiting = append(o.waiting, *r)
 	case wire.Receive:
-		o.received = r.Value
+		if len(o.waiting) > 0 {
+			o.waiting = o.waiting[1:]
+		}
 	case wire.Close:
 		o.closed = true
 	case wire.OnceBegin:
@@ -132,8 +134,9 @@ func (o *standing) bring(state []wire.Record) []wire.Record {
 	for i := 0; i < o.readers; i++ {
 		do(wire.ReadLock, 0)
 	}
-	for n := o.received; n < o.sent; n++ {
-		do(wire.Send, n+1)
+	for _, r := range o.waiting {
+		r.Goroutine, r.Site = 0, o.declared.Site
+		state = append(state, r)
 	}
 	if o.closed {
 		do(wire.Close, 0)

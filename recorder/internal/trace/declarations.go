@@ -2,6 +2,7 @@ package trace
 
 import (
 	"fmt"
+	"strconv"
 	"strings"
 
 	"gorace.local/recorder/internal/sites"
@@ -18,21 +19,31 @@ const (
 
 const tooManyGoroutines = "more than 1,024 goroutines at once, or that nothing joins"
 
-// names gives each thing a name of its own.
-type names map[string]int
+// names gives each thing a name of its own. It has a count of each that was asked for; what is taken besides has none.
+type names map[string]*int
+
+// taken is the count of names that were made, and that nobody has asked for.
+var taken = new(int)
 
 func (n names) take(s string) string {
 	s = nameWord(s)
-	n[s]++
 	count := n[s]
-	if count == 1 {
+	if count == nil {
+		count = new(int)
+		*count = 1
+		n[s] = count
 		return s
 	}
-	for ; ; count++ {
-		t := fmt.Sprintf("%s_%d", s, count)
-		if n[t] == 0 {
-			n[t] = 1
-			n[s] = count
+	if count == taken {
+		count = new(int)
+		*count = 1
+		n[s] = count
+	}
+	for {
+		*count++
+		t := s + "_" + strconv.Itoa(*count)
+		if n[t] == nil {
+			n[t] = taken
 			return t
 		}
 	}
@@ -40,13 +51,15 @@ func (n names) take(s string) string {
 
 // nameWord is a name without what a name of a trace can't have.
 func nameWord(s string) string {
-	b := []byte(s)
-	for i, c := range b {
-		if c != '_' && (c < '0' || c > '9') && (c < 'a' || c > 'z') && (c < 'A' || c > 'Z') {
-			b[i] = '_'
+	if !isNameWord(s) {
+		b := []byte(s)
+		for i, c := range b {
+			if !isNameByte(c) {
+				b[i] = '_'
+			}
 		}
+		s = string(b)
 	}
-	s = string(b)
 	if s == "" || s == "nil" || s == "main" {
 		s += "_"
 	}
@@ -54,6 +67,19 @@ func nameWord(s string) string {
 		s = s[:longestName]
 	}
 	return s
+}
+
+func isNameWord(s string) bool {
+	for i := 0; i < len(s); i++ {
+		if !isNameByte(s[i]) {
+			return false
+		}
+	}
+	return true
+}
+
+func isNameByte(c byte) bool {
+	return c == '_' || '0' <= c && c <= '9' || 'a' <= c && c <= 'z' || 'A' <= c && c <= 'Z'
 }
 
 // declarer writes the declarations, up to where a limit is exceeded.
@@ -73,7 +99,7 @@ func declare(l *lender, table sites.Table) *declarer {
 	d := &declarer{
 		lender:   l,
 		table:    table,
-		names:    names{"main": 1},
+		names:    names{"main": taken},
 		channels: map[uint32]string{},
 		counts:   map[wire.Op]int{},
 		end:      l.to,
@@ -83,7 +109,7 @@ func declare(l *lender, table sites.Table) *declarer {
 	}
 	for g := uint32(1); g <= l.started; g++ {
 		if l.alive[g] {
-			d.names[d.goroutine(g)] = 1
+			d.names[d.goroutine(g)] = taken
 		}
 	}
 	for i := 0; i < l.to && i <= d.end; i++ {
@@ -96,7 +122,7 @@ func (l *lender) goroutine(g uint32) string {
 	if g == 0 {
 		return "main"
 	}
-	return fmt.Sprintf("g%d", l.numbers[g])
+	return "g" + strconv.Itoa(l.numbers[g])
 }
 
 func (d *declarer) cutAt(i int, why string) {
@@ -215,7 +241,9 @@ func (d *declarer) declareObject(i int, o *object) {
 
 func (d *declarer) line(o *object, word, name, more string) {
 	o.name = d.names.take(name)
-	fmt.Fprintf(&d.text, "%s %s%s\n", word, o.name, more)
+	for _, s := range [...]string{word, " ", o.name, more, "\n"} {
+		d.text.WriteString(s)
+	}
 }
 
 // order declares what stands for an order: a channel, a once or a lock, as long as there are.

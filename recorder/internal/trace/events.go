@@ -240,9 +240,17 @@ func (p *printer) event(word string, r *wire.Record, what string) {
 	}
 	switch r.Op {
 	case wire.Send, wire.Receive, wire.Meet:
-		p.line = strconv.AppendUint(append(p.line, ' '), r.Value, 10)
+		p.line = strconv.AppendUint(append(p.line, ' '), sent(r), 10)
 	}
 	p.finish(r)
+}
+
+// sent is the value of a send, a receive or a meet.
+func sent(r *wire.Record) uint64 {
+	if r.Op != wire.Meet && r.Kind == wire.WithElement {
+		return uint64(r.OtherSite)<<32 | uint64(r.Other)
+	}
+	return r.Value
 }
 
 // valued writes a read or a write.

@@ -24,6 +24,8 @@ type Moment struct {
 	Last  Deed
 	Stack uint32 // of an access: the number of the calls that led there, 0 for none known
 
+	Goroutine uint32 // of an access: its number in the records
+
 	Change bool // the event is the read of a change, whose write stands behind it
 }
 
@@ -100,7 +102,7 @@ func momentsOf(s *stretch, table sites.Table, o Options, wanted map[int]bool) (m
 func (f *follower) moment(r *wire.Record, goesOn bool) Moment {
 	m := Moment{Last: f.last[r.Goroutine], Change: goesOn && f.isChange(r)}
 	if isAccess(r.Op) {
-		m.Stack = r.OtherSite
+		m.Stack, m.Goroutine = r.OtherSite, r.Goroutine
 	}
 	for _, h := range f.held[r.Goroutine] {
 		m.Locks = append(m.Locks, h.since)
@@ -132,7 +134,7 @@ func (f *follower) free() names {
 		f.taken = names{}
 		for i := range f.objects {
 			if name := f.objects[i].name; name != "" {
-				f.taken[name]++
+				f.taken[name] = taken
 			}
 		}
 	}
@@ -153,7 +155,9 @@ func (f *follower) follow(r *wire.Record) {
 	g, place := r.Goroutine, f.table[r.Site].Place
 	switch r.Op {
 	case wire.Go:
-		f.last[g] = Deed{What: "go of " + f.nameOf(r.Other), Place: place}
+		if r.Site != 0 && wire.GoKind(r.Kind) != wire.GoEarlier { // else nobody knows who started it, or it wasn't now
+			f.last[g] = Deed{What: "go of " + f.nameOf(r.Other), Place: place}
+		}
 		f.last[r.Other] = Deed{What: "its start", Place: place}
 		return
 	case wire.Exit:

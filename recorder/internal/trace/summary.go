@@ -3,9 +3,7 @@ package trace
 import (
 	"fmt"
 	"io"
-	"sort"
 	"strconv"
-	"strings"
 
 	"gorace.local/recorder/internal/sites"
 	"gorace.local/recorder/wire"
@@ -26,11 +24,9 @@ type Count struct{ Kept, Met int }
 type Summary struct {
 	Records, Events                        int
 	Goroutines, Variables, Channels, Locks Count
-	Names                                  int                             // of the goroutines in the trace
-	Starts                                 map[string][]Start              // by the goroutine's name
-	Cut                                    string                          // why the trace is cut off, and where
-	unseen                                 map[string]int                  // places and names of reads that found unrecorded writes
-	losses                                 [wire.Losses + 1]map[string]int // the last: tests
+	Names                                  int                // of the goroutines in the trace
+	Starts                                 map[string][]Start // by the goroutine's name
+	Cut                                    string             // why the trace is cut off, and where
 }
 
 // Options are what is asked of a trace.
@@ -91,14 +87,8 @@ func write(of *stretch, table sites.Table, o Options, out io.Writer) (s *Summary
 	if err != nil {
 		return nil, 0, err
 	}
-	s = &Summary{Records: d.end, Events: p.events, Starts: p.starts, unseen: map[string]int{}}
+	s = &Summary{Records: d.end, Events: p.events, Starts: p.starts}
 	s.count(d)
-	for i := range s.losses {
-		s.losses[i] = map[string]int{}
-	}
-	for i := 0; i < d.end; i++ {
-		s.look(of.at(i), d)
-	}
 	if d.cut != "" {
 		s.Cut = d.cut
 		if d.end < of.len() {
@@ -131,34 +121,6 @@ func (s *Summary) count(d *declarer) {
 	}
 }
 
-func (s *Summary) look(r *wire.Record, d *declarer) {
-	switch r.Op {
-	case wire.Unseen:
-		s.unseen[d.table[r.Site].Place+" ("+d.variableName(&d.objects[r.Object])+")"]++
-	case wire.Lost:
-		kind, site := int(r.Kind), d.table[r.Site]
-		if kind == int(wire.LostGoroutine) && isTest(site) {
-			kind = int(wire.Losses)
-		}
-		s.losses[kind][site.Place]++
-	case wire.Full:
-		switch {
-		case d.cut != "":
-		case wire.FullKind(r.Kind) == wire.FullDisk:
-			d.cut = "the disk has no room for more records"
-		default:
-			d.cut = "the log has no room for more records"
-		}
-	}
-}
-
-// isTest reports whether a goroutine that is met at a site is a test's, which package testing
-// started.
-func isTest(s sites.Site) bool {
-	file, _, _ := strings.Cut(s.Place, ":")
-	return s.Name == "test" && strings.HasSuffix(file, "_test.go")
-}
-
 // Add adds what another segment has; the counts of both are summed, also those of what is in
 // both.
 func (s *Summary) Add(t *Summary) {
@@ -171,20 +133,6 @@ func (s *Summary) Add(t *Summary) {
 		c[0].Kept += c[1].Kept
 		c[0].Met += c[1].Met
 	}
-	if s.unseen == nil {
-		s.unseen = map[string]int{}
-	}
-	for k, n := range t.unseen {
-		s.unseen[k] += n
-	}
-	for i := range s.losses {
-		if s.losses[i] == nil {
-			s.losses[i] = map[string]int{}
-		}
-		for k, n := range t.losses[i] {
-			s.losses[i][k] += n
-		}
-	}
 }
 
 // Counts is one line about the trace.
@@ -196,50 +144,4 @@ func (s *Summary) Counts() string {
 	return fmt.Sprintf("%d events of %d records; goroutines %d of %d%s, variables %d of %d, channels %d of %d, locks %d of %d",
 		s.Events, s.Records, s.Goroutines.Kept, s.Goroutines.Met, names, s.Variables.Kept, s.Variables.Met,
 		s.Channels.Kept, s.Channels.Met, s.Locks.Kept, s.Locks.Met)
-}
-
-// Losses is one line about what the trace hasn't, or is empty.
-func (s *Summary) Losses() string {
-	var parts []string
-	for _, l := range []struct {
-		counts    map[string]int
-		one, more string
-		what      string
-	}{
-		{s.unseen, "read", "reads", "found writes by code that isn't recorded, whose races are missed"},
-		{s.losses[wire.LostGoroutine], "goroutine was", "goroutines were", "started by code that isn't recorded, so races with them may be missed"},
-		{s.losses[wire.Losses], "test was", "tests were", "started by package testing, so races with what came before may be missed"},
-		{s.losses[wire.LostChannel], "channel is", "channels are", "used by code that isn't recorded, so reports may be false"},
-		{s.losses[wire.LostLocker], "locker is", "lockers are", "of types that aren't recorded, so reports may be false"},
-	} {
-		switch n := total(l.counts); n {
-		case 0:
-		case 1:
-			parts = append(parts, fmt.Sprintf("1 %s %s (%s)", l.one, l.what, first(l.counts)))
-		default:
-			parts = append(parts, fmt.Sprintf("%d %s %s (%s)", n, l.more, l.what, first(l.counts)))
-		}
-	}
-	return strings.Join(parts, "; ")
-}
-
-func total(counts map[string]int) int {
-	n := 0
-	for _, c := range counts {
-		n += c
-	}
-	return n
-}
-
-// first names up to three of the places.
-func first(counts map[string]int) string {
-	var places []string
-	for p := range counts {
-		places = append(places, p)
-	}
-	sort.Strings(places)
-	if len(places) > 3 {
-		places = append(places[:3], "..")
-	}
-	return strings.Join(places, ", ")
 }

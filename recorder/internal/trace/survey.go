@@ -132,9 +132,7 @@ func (s *survey) look(i int) {
 		if s.hasTries() {
 			s.use(r.Object, r.Goroutine)
 		}
-	case wire.Unseen:
-		s.object(r.Object)
-	case wire.Exit, wire.Case, wire.Lost, wire.Full:
+	case wire.Exit, wire.Case:
 	default:
 		s.use(r.Object, r.Goroutine)
 	}

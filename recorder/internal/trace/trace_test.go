@@ -2,7 +2,6 @@ package trace
 
 import (
 	"fmt"
-	"io"
 	"strings"
 	"testing"
 
@@ -309,7 +308,7 @@ func TestNamesAreLentOnByTries(t *testing.T) {
 }
 
 func TestNames(t *testing.T) {
-	n := names{"main": 1}
+	n := names{"main": taken}
 	var got []string
 	for _, s := range []string{"x", "x", "a.b", "nil", "main", "", "x_2", strings.Repeat("y", 90)} {
 		got = append(got, n.take(s))
@@ -343,24 +342,6 @@ exit g2 a.go:1
 `
 	if text != want {
 		t.Errorf("got\n%s", text)
-	}
-}
-
-// Where a trace is cut off in front of the end of a log that is full, the first reason is told.
-func TestCutBeforeTheEndOfAFullLog(t *testing.T) {
-	records := []wire.Record{{Op: wire.Go, Other: 1, Site: 1}, {Op: wire.DeclareVar, Object: 1, Site: 1}}
-	for i := 0; i < 10; i++ {
-		records = append(records, wire.Record{Op: wire.Write, Object: 1, Goroutine: uint32(i % 2), Site: 2})
-	}
-	records = append(records, wire.Record{Op: wire.Full})
-	for limit, want := range map[int]string{5: "more than 5 events, at a.go:2", 0: "the log has no room for more records"} {
-		s, err := Write(records, table, Options{Version: 1, Events: limit}, io.Discard)
-		if err != nil {
-			t.Fatal(err)
-		}
-		if s.Cut != want {
-			t.Errorf("limit %d: %q", limit, s.Cut)
-		}
 	}
 }
 

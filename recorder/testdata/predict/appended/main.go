@@ -1,4 +1,4 @@
-// hides: errs
+// hides: errs, errs_elem
 
 // Errors are gathered outside of the lock.
 package main

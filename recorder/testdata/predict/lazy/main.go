@@ -1,4 +1,4 @@
-// hides: conf
+// hides: conf, s
 
 // What is made when it is needed first has no lock; the lock of the log orders the two.
 package main

@@ -1,4 +1,5 @@
-// races: sorting_elem, words_elem, sorted|sorted_elem, appended_elem, printed_elem, formatted_elem, note_A|shown, drawn_elem, read_elem, header_A|h, written_A|w, put_elem, put2_elem, varint_elem, got|got_elem, got2|got2_elem, began_elem, grown_elem, grown2_elem, rune_elem, summed_elem, stream_elem, plain_elem, block_elem
+// races: sorting_elem, words_elem, sorted|sorted_elem, appended_elem, printed_elem, formatted_elem, note_A|shown, drawn_elem, read_elem, header_A|h, written_A|w, put_elem, put2_elem, varint_elem, got|got_elem, got2|got2_elem, began_elem, grown_elem, grown2_elem, rune_elem, summed_elem; perhaps: stream_elem, plain_elem, block_elem
+// why: what assembly writes, as that of AES, isn't recorded
 
 package main
 

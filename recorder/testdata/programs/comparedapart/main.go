@@ -50,8 +50,6 @@ func main() {
 	apart(func(t []byte) { bytes.TrimPrefix(t, short) }, 2)
 	apart(func(t []byte) { bytes.HasSuffix(t, short) }, 0, 10)
 	apart(func(t []byte) { bytes.TrimSuffix(t, long) }, 12)
-	apart(func(t []byte) { bytes.Equal(t, short) }, 0)
-	apart(func(t []byte) { bytes.Equal(t, []byte("abd, def, abc")) }, 3)
 	apart(func(t []byte) { hmac.Equal(t, short) }, 0)
 	apart(func(t []byte) { bytes.Compare(t, short) }, 2)
 	apart(func(t []byte) { bytes.IndexByte(t, 'b') }, 2, 12)

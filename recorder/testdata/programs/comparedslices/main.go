@@ -1,4 +1,5 @@
-// races: begun_elem, ended_elem, equal_elem, other_elem, folded_elem, secret_elem, ordered_elem, found_elem, sought_elem, missing_elem, byte1_elem, any_elem, rune1_elem, held_elem, last_elem, lastOf_elem, cut_elem, counted_elem, split_elem, few_elem, trimmed_elem, left_elem, right_elem, spaced_elem, full_elem, valid_elem, copied_elem, old_elem, put_elem, joined_elem, between_elem
+// races: begun_elem, ended_elem, equal_elem, other_elem, folded_elem, secret_elem, any_elem, last_elem, lastOf_elem, trimmed_elem, left_elem, right_elem, spaced_elem, valid_elem, copied_elem, old_elem, put_elem, joined_elem, between_elem; perhaps: ordered_elem, found_elem, sought_elem, missing_elem, byte1_elem, rune1_elem, held_elem, cut_elem, counted_elem, split_elem, few_elem, full_elem
+// why: what assembly reads, as that of Compare, Count, Index and IndexByte, isn't recorded
 
 package main
 

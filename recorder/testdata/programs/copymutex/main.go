@@ -1,4 +1,4 @@
-// races: counter_n_at
+// races: n
 
 package main
 

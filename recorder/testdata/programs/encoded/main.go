@@ -1,4 +1,4 @@
-// races: titled, sized, leading
+// races: titles_Title, sizes_Sizes_elem, inner_Deep
 
 package main
 

@@ -1,4 +1,4 @@
-// races: settings_Port|s, tags, old_elem
+// races: settings_Port|s, tags, old_elem|list_elem
 
 package main
 

@@ -1,4 +1,5 @@
-// races: stack_items
+// races: stack_items; perhaps: stack_items_elem
+// why: the second may copy what the first has appended
 
 package main
 

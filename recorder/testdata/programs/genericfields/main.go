@@ -1,4 +1,4 @@
-// races: Box_Items, Box_Index, Box_Pair, Box_Pair_at16
+// races: Box_Items, Box_Index, Box_Pair_a, Box_Pair_b
 
 package main
 
@@ -55,7 +55,7 @@ func NewErrors() *Box[error] { return &Box[error]{} }
 
 func Counted(b *Box[error]) int { return Count(b) }
 
-// What isn't generic uses the recorder's own types.
+// What isn't generic uses types of its own.
 
 var errs []error
 

@@ -1,4 +1,5 @@
-// clean
+// races: hexed_elem
+// why: Decode reads both digits before it finds the first one wrong
 
 package main
 

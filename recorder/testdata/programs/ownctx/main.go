@@ -1,4 +1,5 @@
 // clean
+
 package main
 
 import (

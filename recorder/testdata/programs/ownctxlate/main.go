@@ -1,4 +1,5 @@
 // races: after
+
 package main
 
 import (

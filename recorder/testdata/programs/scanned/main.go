@@ -37,7 +37,7 @@ func both(a, b func()) {
 // what functions of the standard library write behind pointers
 func main() {
 	_, err := os.Open("/none/there")
-	both(func() { fmt.Sscan("8080", &o.Port) }, func() { _ = o.Port })
+	both(func() { fmt.Sscan("8080", &o.Port) }, func() { o.Port = 1 })
 	both(func() { fmt.Sscanf("1-2", "%d-%d", &first, &second) }, func() { first, second = 3, 4 })
 	both(func() { fmt.Sscanln("a", &word) }, func() { word = "b" })
 	both(func() { errors.As(err, &failure) }, func() { failure = nil })

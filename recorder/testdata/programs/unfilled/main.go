@@ -1,4 +1,5 @@
-// clean
+// races: options_Flags_elem
+// why: Unmarshal also sets the elements of an array that have the value already
 
 package main
 

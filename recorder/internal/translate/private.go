@@ -1,0 +1,86 @@
+package translate
+
+import "strings"
+
+// A privacy is about orders of the library that no program may rely on, since nothing promises them: races would hide behind
+// a call that happens to take a lock. What the functions order has no records, and neither has memory that they use and
+// the program doesn't.
+type privacy struct {
+	pkg       string
+	functions []string // their names, or how they begin; none: all of the package
+	whole     bool     // these are whole names
+	helped    bool     // what other functions of the package do is for those that call them
+	shares    bool     // the functions also read and write memory that they are given; else no access of theirs is told
+}
+
+// privacies are the orders that nobody promises.
+var privacies = []privacy{
+	// The pool of printers passes memory on from one call to another.
+	{pkg: "fmt", shares: true},
+
+	// Sorting the keys of a map that is printed is a part of that.
+	{pkg: "internal/fmtsort", shares: true},
+
+	// The functions of the package share a source behind a lock, which is found by an atomic pointer. Sources of the program's
+	// own have no lock, so their memory counts.
+	{pkg: "math/rand", functions: []string{"(*lockedSource)", "(*runtimeSource)", "globalRand", "Seed"}, helped: true, shares: true},
+
+	// What a test reads of its environment is noted behind an atomic pointer and a lock.
+	{pkg: "internal/testlog"},
+
+	// Tests that run beside one another wait for a place behind a lock (the channel by which one gets it counts), and
+	// for one another to write their names.
+	{pkg: "testing", functions: []string{"(*testContext)", "(*testState)", "(*chattyPrinter)"}},
+
+	// Writers of one file wait for one another, as for os.Stdout. (A Close comes before what it ends, so it counts; but the last
+	// Write may be what closes the file.)
+	{pkg: "internal/poll", functions: []string{"(*FD).Write", "(*FD).Pwrite"}, whole: true, helped: true},
+
+	// Package runtime has locks of its own, as of types that reflect makes and of metrics.
+	{pkg: "runtime", functions: []string{
+		"reflectOffsLock", "reflectOffsUnlock", "resolveNameOff", "resolveTypeOff", "(*_type)", "rtype", "(*rtype)", "metricsLock",
+		"metricsUnlock", "moduleTypelinks",
+	}},
+	{pkg: "reflect", functions: []string{"addReflectOff", "resolveNameOff", "resolveTypeOff", "resolveTextOff"}, helped: true},
+
+	// A counter of non-default behavior is registered once, by who meets it first.
+	{pkg: "internal/godebug"},
+	{pkg: "internal/godebugs"},
+
+	// The environment is copied once, and is read and written behind a lock.
+	{pkg: "syscall", functions: []string{
+		"Getenv", "Setenv", "Unsetenv", "Clearenv", "Environ", "copyenv", "runtimeSetenv", "runtimeUnsetenv",
+	}},
+}
+
+// private has them by their packages.
+var private = func() map[string]*privacy {
+	m := map[string]*privacy{}
+	for i := range privacies {
+		m[privacies[i].pkg] = &privacies[i]
+	}
+	return m
+}()
+
+// has reports whether a function is one of these, by its name in its package.
+func (p *privacy) has(name string) bool {
+	if len(p.functions) == 0 {
+		return true
+	}
+	for _, begin := range p.functions {
+		rest := strings.TrimPrefix(name, begin)
+		if rest != name && (!p.whole || rest == "" || rest[0] == '.') {
+			return true
+		}
+	}
+	return false
+}
+
+// doesForOthers reports whether the functions of a package do what another one wants, whose orders count then.
+func doesForOthers(pkg string) bool {
+	switch pkg {
+	case "sync", "sync/atomic", "internal/race", "internal/sync", "reflect", "internal/bytealg", "strconv", "unicode/utf8":
+		return true
+	}
+	return isRuntime(pkg)
+}

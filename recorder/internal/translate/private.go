@@ -29,8 +29,8 @@ var privacies = []privacy{
 	{pkg: "internal/testlog"},
 
 	// Tests that run beside one another wait for a place behind a lock (the channel by which one gets it counts), and
-	// for one another to write their names.
-	{pkg: "testing", functions: []string{"(*testContext)", "(*testState)", "(*chattyPrinter)"}},
+	// for one another to write their names; all note in one map that they run.
+	{pkg: "testing", functions: []string{"(*testContext)", "(*testState)", "(*chattyPrinter)", "tRunner", "(*T).Parallel"}},
 
 	// Writers of one file wait for one another, as for os.Stdout. (A Close comes before what it ends, so it counts; but the last
 	// Write may be what closes the file.)

@@ -127,9 +127,13 @@ func (j *judging) judgeSegment(s *trace.Segments, p *part, command []string) err
 	return nil
 }
 
-// places are where a race is.
+// places are where a race is, whichever access came first.
 func (r *race) places() string {
-	return fmt.Sprint(r.First.Kind, r.First.Place, r.Second.Kind, r.Second.Place)
+	a, b := r.First.Place, r.Second.Place
+	if b < a {
+		a, b = b, a
+	}
+	return a + " " + b
 }
 
 // predicted stands in front of the places of a race that was predicted.

@@ -8,23 +8,13 @@ import (
 // namer names what a program uses by what is known of it.
 type namer struct{ program *symbols.Program }
 
-func objectOf(h *translate.Heap) *symbols.Object {
-	if h == nil {
-		return nil
-	}
-	return &symbols.Object{Base: h.Base, Size: h.Size, Type: h.Type}
-}
-
 // Variable names a variable by that of its uses which tells its name best.
 func (n namer) Variable(addr uint64, h *translate.Heap, uses []translate.Use) (name string, begin uint64) {
 	var list []symbols.Access
 	for _, u := range uses {
-		list = append(list, symbols.Access{Addr: addr, Size: u.Bytes, Write: u.Write, Frames: u.Frames, Object: objectOf(h)})
+		list = append(list, symbols.Access{Addr: addr, Size: u.Bytes, Write: u.Write, Frames: u.Frames, Object: (*symbols.Object)(h)})
 	}
 	best := n.program.NameOf(list)
-	if best.Quality == symbols.Unnamed {
-		return "", 0
-	}
 	if best.Begin>>3 < addr>>3 {
 		begin = best.Begin
 	}
@@ -41,9 +31,5 @@ func (n namer) Size(typ uint64) uint64 {
 
 // Object names what is no variable by what its operation is about.
 func (n namer) Object(_ translate.Kind, addr uint64, h *translate.Heap, frames []symbols.Frame) string {
-	name := n.program.Object(symbols.Access{Addr: addr, Frames: frames, Object: objectOf(h)})
-	if name.Quality == symbols.Unnamed {
-		return ""
-	}
-	return name.Word
+	return n.program.Object(symbols.Access{Addr: addr, Frames: frames, Object: (*symbols.Object)(h)}).Word
 }

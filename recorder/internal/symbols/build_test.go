@@ -55,29 +55,36 @@ func openBuilt(t *testing.T, command, folder string, flags []string) *Program {
 	return p
 }
 
-// typeNamed looks for a type in all of the debugging information.
-func typeNamed(p *Program, name string) *Type {
-	var found *Type
+// typeNamed looks for a type among those that package runtime has, and then among all.
+func typeNamed(p *Program, name string) (found *Type) {
+	p.TypeAt(1) // has these read
+	for _, at := range p.debug().runtimes {
+		if t := p.typeOf(at); t.Name == name {
+			return t
+		}
+	}
 	for _, u := range p.debug().units {
-		var own entry
-		first, ok := p.debug().read(u, u.first, &own)
-		if !ok || !own.children {
+		if u.pkg != "runtime" {
 			continue
 		}
-		p.debug().children(u, first, func(e *entry, _ int) bool {
-			if string(e.name) == name && e.tag != dwarf.TagVariable && e.tag != dwarf.TagSubprogram {
-				if t := p.typeOfEntry(e.at); t != nil && (found == nil || found.at == 0) {
-					found = t
-				}
+		p.debug().children(u.Entry, func(e *dwarf.Entry) {
+			if found == nil && nameOf(e) == name && e.Tag != dwarf.TagVariable && e.Tag != dwarf.TagSubprogram {
+				found = p.typeOf(e.Offset)
 			}
-			return found == nil || found.at == 0
 		})
 	}
 	return found
 }
 
 // offsetOf is what TypeAt finds a type by.
-func offsetOf(p *Program, t *Type) uint64 { return t.at - p.symbols.marks["runtime.types"] }
+func offsetOf(p *Program, t *Type) uint64 {
+	for at, entry := range p.debug().runtimes {
+		if p.typeOf(entry) == t {
+			return at
+		}
+	}
+	return 0
+}
 
 // framesOf are the frames of a file's lines, each with all functions that have it.
 func framesOf(p *Program, pkg, file string) map[int][]Frame {

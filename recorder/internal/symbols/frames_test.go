@@ -50,7 +50,7 @@ func TestFunctionNames(t *testing.T) {
 	}
 }
 
-func TestClosureOf(t *testing.T) {
+func TestLiteralOf(t *testing.T) {
 	for function, want := range map[string][2]int{
 		"main.main":                   {0, 0},
 		"main.main.func3":             {1, 3},
@@ -63,7 +63,7 @@ func TestClosureOf(t *testing.T) {
 		"main.main.func1.deferwrap1":  {1, 1},
 		"example.com/a.b/c.run.func4": {1, 4},
 	} {
-		depth, number := closureOf(function)
+		depth, number := literalOf(function)
 		if depth != want[0] || number != want[1] {
 			t.Errorf("%s: got %d and %d, want %v", function, depth, number, want)
 		}

@@ -1,6 +1,7 @@
 package symbols
 
 import (
+	"debug/elf"
 	"fmt"
 	"os"
 	"path/filepath"
@@ -13,15 +14,15 @@ import (
 
 // expectation is what a line of testdata/names says of an access there.
 type expectation struct {
-	line       int
-	verb       string // read, write, deep, use, global, static
-	what       string // the type or the operation
-	several    uint64 // of so many values
-	offset     uint64
-	text, word string
+	line    int
+	verb    string // read, write, deep, use, global, static
+	what    string // the type or the operation
+	several uint64 // of so many values
+	offset  uint64
+	word    string
 }
 
-var expected = regexp.MustCompile(`^(read|write|deep|use|global|static) ([^:]+): (.+) = (\w+)$`)
+var expected = regexp.MustCompile(`^(read|write|deep|use|global|static) ([^:]+): (\w+)$`)
 
 func readExpectations(t *testing.T, path string) (list []expectation) {
 	t.Helper()
@@ -39,7 +40,7 @@ func readExpectations(t *testing.T, path string) (list []expectation) {
 			if m == nil {
 				t.Fatalf("%s:%d: %s", path, i+1, s)
 			}
-			e := expectation{line: i + 1, verb: m[1], what: m[2], several: 1, text: m[3], word: m[4]}
+			e := expectation{line: i + 1, verb: m[1], what: m[2], several: 1, word: m[3]}
 			if what, offset, ok := strings.Cut(e.what, "+"); ok {
 				e.what = what
 				e.offset, _ = strconv.ParseUint(offset, 10, 64)
@@ -68,7 +69,7 @@ func (e expectation) object(t *testing.T, p *Program) *Object {
 		names = []string{"internal/runtime/maps.Map", "runtime.hmap"}
 	}
 	for _, name := range names {
-		if typ := typeNamed(p, name); typ != nil && typ.at != 0 {
+		if typ := typeNamed(p, name); typ != nil {
 			return &Object{Base: heapBase, Size: typ.Size * e.several, Type: offsetOf(p, typ)}
 		}
 	}
@@ -102,24 +103,23 @@ func (e expectation) name(t *testing.T, p *Program, f Frame) Name {
 	case "use":
 		return p.Object(a)
 	case "global":
-		o := objectNamed(p, e.what)
-		a.Addr = o.low + e.offset
+		a.Addr = objectNamed(p, e.what).Value + e.offset
 		return p.Name(a)
-	case "static":
-		a.Addr = p.image.pointerAt(objectNamed(p, e.what).low) + e.offset
+	case "static": // what the linker has made for the variable
+		a.Addr = p.wordAt(objectNamed(p, e.what).Value) + e.offset
 		return p.Name(a)
 	}
 	a.Object = e.object(t, p)
 	return p.Name(a)
 }
 
-func objectNamed(p *Program, name string) object {
-	for _, o := range p.symbols.objects {
-		if p.symbols.nameOf(o) == name {
+func objectNamed(p *Program, name string) elf.Symbol {
+	for _, o := range p.objects {
+		if o.Name == name {
 			return o
 		}
 	}
-	return object{}
+	return elf.Symbol{}
 }
 
 // TestNames: what the lines of testdata/names say is what they get.
@@ -132,15 +132,14 @@ func TestNames(t *testing.T) {
 				t.Errorf("line %d has no code", e.line)
 			}
 			var got []string
-			want, ok := fmt.Sprintf("%s = %s", e.text, e.word), false
+			ok := false
 			for _, f := range frames[e.line] {
 				n := e.name(t, p, f)
-				s := fmt.Sprintf("%s = %s", n.Text, n.Word)
-				got = append(got, fmt.Sprintf("%s (quality %d, %s)", s, n.Quality, f.Function))
-				ok = ok || s == want
+				got = append(got, fmt.Sprintf("%s (rank %d, %s)", n.Word, n.rank, f.Function))
+				ok = ok || n.Word == e.word
 			}
 			if !ok {
-				t.Errorf("line %d, %s %s: want %s, got %s", e.line, e.verb, e.what, want, strings.Join(got, " | "))
+				t.Errorf("line %d, %s %s: want %s, got %s", e.line, e.verb, e.what, e.word, strings.Join(got, " | "))
 			}
 		}
 	})

@@ -10,26 +10,20 @@ import (
 // Object names what a lock, a channel operation and the like is about: by its address if it is a package variable or
 // a field, and by the expression at its place: mu, s.mu, done. Frames begin with the operation's own, as sync.(*Mutex).Lock.
 func (p *Program) Object(a Access) Name {
-	if v, ok := p.Global(a.Addr); ok {
-		return p.globalName(v, a)
+	if n, ok := p.globalAt(a.Addr); ok {
+		return n
 	}
-	n := Name{Begin: a.Addr}
 	m := p.memoryOf(a)
-	n.ofType(m)
-	verb, at := operationOf(a.Frames)
-	if at < 0 {
-		return n
+	if m.isMap {
+		m = &memory{}
 	}
-	d := p.sources.declarationAt(a.Frames[at].File, a.Frames[at].Line)
-	if d == nil {
-		return n
+	n := m.byType()
+	if verb, at := operationOf(a.Frames); at >= 0 && !m.isField() {
+		if l := p.locatorFor(a.Frames[at]); l != nil {
+			n = n.or(l.bestOperand(verb, m))
+		}
 	}
-	l := p.locatorFor(a.Frames[at], d)
-	if best, ok := l.bestOperand(d.function(a.Frames[at]), a.Frames[at].Line, verb, m); ok {
-		n.take(best)
-	}
-	n.Word = word(n.Word)
-	return n
+	return Name{asWord(n.Word), a.Addr, n.rank}
 }
 
 // operationOf answers the method or the operation that a stack begins with, and the frame that calls it.
@@ -68,118 +62,76 @@ func channelVerb(function string) string {
 	return ""
 }
 
-// operand is what an expression of a line operates on.
-type operand struct {
-	x    ast.Expr
-	verb string
-}
-
-// bestOperand answers what the operation of a line is about. A deferred one happens where the function ends, so it may
+// bestOperand names what the operation of a line is about. A deferred one happens where the function ends, so it may
 // stand anywhere in it.
-func (l *locator) bestOperand(fn ast.Node, line int, verb string, m *memory) (best chosen, ok bool) {
-	var here, deferred []operand
-	inspectOwn(fn, func(n ast.Node) {
-		if d, ok := n.(*ast.DeferStmt); ok && l.decl.line(n.Pos()) != line {
-			deferred = append(deferred, operandsOf(d.Call)...)
+func (l *locator) bestOperand(verb string, m *memory) Name {
+	var here, deferred contest
+	inspectOwn(l.fn, func(n ast.Node) {
+		onLine := l.line(n.Pos()) == l.at
+		switch s := n.(type) {
+		case *ast.DeferStmt:
+			if !onLine {
+				l.operand(s.Call, verb, m, &deferred)
+			}
+		case *ast.SelectStmt: // the runtime does the operations of its cases at its first line
+			for _, c := range s.Body.List {
+				if c, ok := c.(*ast.CommClause); ok && c.Comm != nil && onLine {
+					ast.Inspect(c.Comm, func(n ast.Node) bool {
+						l.operand(n, verb, m, &here)
+						return n != nil
+					})
+				}
+			}
 		}
-		if l.decl.line(n.Pos()) == line {
-			here = append(here, operandsOf(n)...)
-		}
-		if s, ok := n.(*ast.SelectStmt); ok && l.decl.line(n.Pos()) == line {
-			here = append(here, casesOf(s)...)
+		if onLine {
+			l.operand(n, verb, m, &here)
 		}
 	})
-	for _, list := range [][]operand{here, deferred} {
-		if best, ok = l.choose(list, verb, m); ok {
-			return best, true
+	if here.first.score > noFit {
+		return here.best()
+	}
+	return deferred.best()
+}
+
+// operand enters what a node operates on, if it does what the verb says.
+func (l *locator) operand(n ast.Node, verb string, m *memory, all *contest) {
+	does, on := operationIn(n)
+	x := l.placeOf(on)
+	switch {
+	case x == nil || verb != "" && verb != does:
+	case m.typ == nil: // a channel's memory has nothing to go by
+		all.enter(candidate{word: x.word, score: likely})
+	default:
+		all.enter(candidate{word: x.word, score: guess - 10})
+		all.enter(m.fit(use{place: x, write: m.write}))
+		if x.typ != nil && x.typ.Kind == reflect.Ptr {
+			all.enter(m.fit(use{place: pointee(x, "_at"), write: m.write}))
 		}
 	}
-	return best, false
 }
 
-// choose answers the operand that fits the verb and the memory best.
-func (l *locator) choose(list []operand, verb string, m *memory) (chosen, bool) {
-	var all contest
-	for _, o := range list {
-		if x := l.placeOf(o.x); x != nil && (verb == "" || o.verb == verb) {
-			l.enter(&all, x, m)
-		}
-	}
-	return all.best, all.best.score > noFit
-}
-
-// enter tells how well an operand fits the memory of a lock; a channel's has nothing to go by.
-func (l *locator) enter(all *contest, x *place, m *memory) {
-	named := *x
-	named.piece = piece{text: x.text, word: x.word}
-	score := likely
-	if m.typ != nil {
-		score = guess
-	}
-	all.enter(chosen{use: use{place: &named}, memory: m, score: score})
-	if m.typ == nil {
-		return
-	}
-	views := []*place{x}
-	if x.typ != nil && x.typ.Kind == reflect.Ptr {
-		views = append(views, l.pointee(x, true))
-	}
-	for _, v := range views {
-		score, from := m.fit(use{place: v, write: m.write})
-		all.enter(chosen{use: use{place: v}, memory: m, score: score, from: from})
-	}
-}
-
-// operandsOf are those of one node.
-func operandsOf(n ast.Node) []operand {
+// operationIn is what a node does, and on what.
+func operationIn(n ast.Node) (verb string, on ast.Expr) {
 	switch n := n.(type) {
 	case *ast.SendStmt:
-		return []operand{{n.Chan, sends}}
+		return sends, n.Chan
 	case *ast.UnaryExpr:
 		if n.Op == token.ARROW {
-			return []operand{{n.X, receives}}
+			return receives, n.X
 		}
 	case *ast.RangeStmt:
-		return []operand{{n.X, receives}}
+		return receives, n.X
 	case *ast.CallExpr:
-		return calledOn(n)
-	}
-	return nil
-}
-
-func calledOn(n *ast.CallExpr) []operand {
-	switch f := n.Fun.(type) {
-	case *ast.Ident:
-		if f.Name == "close" && len(n.Args) == 1 {
-			return []operand{{n.Args[0], closes}}
+		f, isMethod := n.Fun.(*ast.SelectorExpr)
+		if id, ok := n.Fun.(*ast.Ident); ok && id.Name == closes && len(n.Args) == 1 {
+			return closes, n.Args[0]
+		} else if !isMethod {
+			return "", nil
 		}
-	case *ast.SelectorExpr:
 		if x, ok := f.X.(*ast.Ident); ok && x.Name == "atomic" && len(n.Args) > 0 {
-			return []operand{{n.Args[0], f.Sel.Name}}
+			return f.Sel.Name, n.Args[0]
 		}
-		return []operand{{f.X, f.Sel.Name}}
+		return f.Sel.Name, f.X
 	}
-	return nil
-}
-
-// casesOf are the operations of a select, which the runtime does at its first line.
-func casesOf(s *ast.SelectStmt) (list []operand) {
-	for _, c := range s.Body.List {
-		comm, ok := c.(*ast.CommClause)
-		if !ok || comm.Comm == nil {
-			continue
-		}
-		ast.Inspect(comm.Comm, func(n ast.Node) bool {
-			if u, ok := n.(*ast.UnaryExpr); ok && u.Op == token.ARROW {
-				list = append(list, operand{u.X, receives})
-				return false
-			}
-			if s, ok := n.(*ast.SendStmt); ok {
-				list = append(list, operand{s.Chan, sends})
-				return false
-			}
-			return n != nil
-		})
-	}
-	return list
+	return "", nil
 }

@@ -1,20 +1,12 @@
 package symbols
 
-import (
-	"reflect"
-	"strconv"
-	"strings"
-)
+import "reflect"
 
-// Part is the variable that an offset in a piece of memory is of.
-type Part struct {
-	Path   string // what the source has behind the piece's name: .limits.max, [3].left, or nothing
-	Offset uint64 // where the variable begins in the piece
-	Size   uint64 // 0: unknown
-	Type   *Type  // nil: unknown
-	IsMap  bool   // it is of what a map holds, which is one variable
-
-	steps []step
+// part is the variable that an offset in a piece of memory is of.
+type part struct {
+	offset uint64 // where the variable begins in the piece
+	typ    *Type  // nil: unknown
+	steps  []step // that lead to it
 }
 
 // step leads from a value to a part of it: a field, or an element.
@@ -22,127 +14,59 @@ type step struct {
 	field    string // "": an element
 	owner    *Type  // of the field
 	embedded bool
-	index    uint64
 	of       *Type // of the part
 }
 
-// Part answers what is at an offset of a piece of memory that was made for values of a type. It has several if its
-// size allows, as the elements of a slice. A string, slice, map, interface and a struct of Go's library that shows no
-// field are one variable each.
-func (p *Program) Part(t *Type, offset, size uint64) Part {
-	if t == nil || t.Size == 0 {
-		return Part{Offset: offset}
-	}
-	if isMapMemory(t) {
-		return Part{Size: size, Type: t, IsMap: true}
-	}
-	var steps []step
-	at := offset
-	if size >= 2*t.Size {
-		steps = append(steps, step{index: at / t.Size, of: t})
-	}
-	at %= t.Size
-	part := descend(t, at)
-	part.steps = append(steps, part.steps...)
-	part.Offset += offset - at
-	part.Path = pathOf(part.steps)
-	return part
-}
-
-// descend goes from a value to the variable in it that an offset is of.
-func descend(t *Type, offset uint64) Part {
-	var steps []step
-	begin, at := uint64(0), offset
-	for t != nil && !t.isOpaque() {
-		s, ok := t.stepTo(at)
+// descend goes from a value to the variable in it that an offset is of. A string, slice, map, interface and a struct of
+// Go's library that shows no field are one variable each.
+func descend(t *Type, at uint64) part {
+	d := part{typ: t}
+	for {
+		s, begin, ok := d.typ.stepTo(at)
 		if !ok {
-			break
+			return d
 		}
-		steps = append(steps, s.step)
-		begin += s.begin
-		at -= s.begin
-		t = s.of
+		d.steps = append(d.steps, s)
+		d.offset += begin
+		at -= begin
+		d.typ = s.of
 	}
-	part := Part{Offset: begin, Type: t, steps: steps, Path: pathOf(steps)}
-	if t != nil {
-		part.Size = t.Size
-	}
-	return part
 }
 
-type placedStep struct {
-	step
-	begin uint64
-}
-
-// stepTo answers the part of a struct or array at an offset.
-func (t *Type) stepTo(at uint64) (placedStep, bool) {
-	switch t.Kind {
-	case reflect.Struct:
-		for _, f := range t.Fields() {
-			if f.Offset <= at && at-f.Offset < f.Type.Size {
-				s := step{field: f.Name, owner: t, embedded: f.Embedded, of: f.Type}
-				return placedStep{s, f.Offset}, true
-			}
-		}
-	case reflect.Array:
-		if e := t.Elem(); e != nil && e.Size > 0 && at < t.Size {
-			i := at / e.Size
-			return placedStep{step{index: i, of: e}, i * e.Size}, true
+// stepTo answers the part of a struct or array at an offset, and where that begins.
+func (t *Type) stepTo(at uint64) (s step, begin uint64, ok bool) {
+	if t == nil || t.isOpaque() {
+		return step{}, 0, false
+	}
+	for _, f := range t.members() {
+		if f.offset <= at && at-f.offset < f.typ.Size {
+			return step{f.name, t, f.embedded, f.typ}, f.offset, true
 		}
 	}
-	return placedStep{}, false
+	if e := t.Elem(); t.Kind == reflect.Array && e != nil && e.Size > 0 && at < t.Size {
+		return step{of: e}, at - at%e.Size, true
+	}
+	return step{}, 0, false
 }
 
-// isMapMemory reports whether a type is one that package runtime makes maps of.
-func isMapMemory(t *Type) bool {
-	name := strings.TrimPrefix(strings.TrimLeft(t.Name, "*[]"), "noalg.")
-	for _, prefix := range []string{"map.bucket[", "map.hdr[", "map.group[", "map.iter["} {
-		if strings.HasPrefix(name, prefix) {
-			return true
-		}
-	}
-	switch name {
-	case "runtime.hmap", "runtime.bmap", "runtime.mapextra", "maps.Map", "maps.table", "maps.groupsReference":
-		return true
-	}
-	return false
-}
-
-// pathOf writes steps as the source does, in which the name of an embedded field may be left out.
-func pathOf(steps []step) string {
-	var b strings.Builder
-	for i, s := range steps {
-		switch {
-		case s.field == "":
-			b.WriteString("[" + strconv.FormatUint(s.index, 10) + "]")
-		case s.embedded && i+1 < len(steps) && steps[i+1].field != "":
-		default:
-			b.WriteString("." + s.field)
-		}
-	}
-	return b.String()
-}
-
-// wordOf is the name of a part for a trace: x_elem, Type_field, or x_field of what has no named type.
+// wordOf is the name of a part for a trace: x_elem, Type_field, or x_field of what has no named type. That of an embedded
+// field is left out, as in the source.
 func wordOf(root string, steps []step) string {
 	word, fresh := root, true
 	for i, s := range steps {
-		switch last := i+1 == len(steps); {
-		case s.field == "" && !last && s.of.short() != "" && steps[i+1].field != "":
+		field := i+1 < len(steps) && steps[i+1].field != "" // follows
+		switch {
+		case s.field == "" && field && s.of.short() != "":
 			fresh = true
 		case s.field == "":
-			word += "_elem"
-			fresh = false
+			word, fresh = word+"_elem", false
 		case fresh && s.owner.short() != "":
 			word, fresh = s.owner.short(), false
-			if !s.embedded || last || steps[i+1].field == "" {
+			if !s.embedded || !field {
 				word += "_" + s.field
 			}
-		case s.embedded && !last && steps[i+1].field != "":
-		default:
-			word += "_" + s.field
-			fresh = false
+		case !s.embedded || !field:
+			word, fresh = word+"_"+s.field, false
 		}
 	}
 	return word

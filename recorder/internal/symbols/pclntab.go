@@ -1,6 +1,8 @@
 package symbols
 
 import (
+	"bytes"
+	"errors"
 	"fmt"
 	"sort"
 )
@@ -28,16 +30,21 @@ const (
 )
 
 // readLines finds the table: its header tells where its parts begin.
-func readLines(m *image, marks map[string]uint64) (*lineTable, error) {
-	b := m.section(".gopclntab")
-	if b == nil {
-		b = m.section(".data.rel.ro.gopclntab")
+func (p *Program) readLines() (*lineTable, error) {
+	for _, name := range []string{".gopclntab", ".data.rel.ro.gopclntab"} {
+		if s := p.elf.Section(name); s != nil {
+			p.parts.table = s.Addr
+		}
 	}
-	if b == nil && marks["runtime.pclntab"] != 0 {
-		b = m.bytesAt(marks["runtime.pclntab"])
+	if p.parts.text == 0 {
+		p.findParts()
 	}
+	if p.parts.text == 0 {
+		return nil, errors.New("it has no symbols, which gorec build leaves in a program")
+	}
+	b := p.bytesAt(p.parts.table)
 	if len(b) < 72 {
-		return nil, fmt.Errorf("it has no table of Go's functions")
+		return nil, errors.New("it has no table of Go's functions")
 	}
 	magic := order.Uint32(b)
 	if magic != magic118 && magic != magic120 {
@@ -50,24 +57,23 @@ func readLines(m *image, marks map[string]uint64) (*lineTable, error) {
 		return nil
 	}
 	t := &lineTable{
-		text: marks["runtime.text"], old: magic == magic118, count: int(order.Uint64(b[8:])),
+		text: p.parts.text, old: magic == magic118, count: int(order.Uint64(b[8:])),
 		names: part(32), units: part(40), files: part(48), values: part(56), funcs: part(64),
+		inlines: p.bytesAt(p.parts.functions),
 	}
 	if t.count < 0 || len(t.funcs) < t.count*8+4 {
-		return nil, fmt.Errorf("its table of functions is cut off")
-	}
-	if t.text == 0 {
-		t.text = order.Uint64(b[24:])
-	}
-	if s := m.elf.Section(".text"); t.text == 0 && s != nil {
-		t.text = s.Addr
-	}
-	for _, name := range []string{"go:func.*", "go.func.*", "runtime.gofunc"} {
-		if at := marks[name]; at != 0 && t.inlines == nil {
-			t.inlines = m.bytesAt(at)
-		}
+		return nil, errors.New("its table of functions is cut off")
 	}
 	return t, nil
+}
+
+// text answers the C string that begins at an offset.
+func text(b []byte, offset uint64) string {
+	if offset >= uint64(len(b)) {
+		return ""
+	}
+	s, _, _ := bytes.Cut(b[offset:], []byte{0})
+	return string(s)
 }
 
 // lineFunc is a function of the table.

@@ -1,82 +1,77 @@
 // Package symbols tells places, stacks and names from the addresses of a Go program that runs or ran: by its
-// binary's table of functions, its types as package runtime has them, its debugging information, and its source.
+// binary's table of functions, its debugging information, and its source.
 //
 // All is read when it is asked for. A Program isn't for several goroutines at once.
 package symbols
 
 import (
-	"bytes"
 	"debug/buildinfo"
+	"debug/dwarf"
+	"debug/elf"
 	"fmt"
-	"strconv"
+	"os"
+	"path"
+	"path/filepath"
 	"strings"
 )
 
 // Program is a binary that Go 1.19 or later has built.
 type Program struct {
-	image   *image
-	symbols *symbolTable
+	file    *os.File
+	elf     *elf.File
 	lines   *lineTable
-	module  string // the main module
-	goroot  string // where Go's source lay, or "" if the paths are trimmed
-	version int    // 19 for Go 1.19
-	wrapper byte   // the kind of functions that the compiler made up
-	moved   uint64 // how far the running program lies from where the file says
-	frames  map[uint64][]Frame
-	texts   map[string]string
+	parts   parts
+	objects []elf.Symbol // package variables, in the order of their addresses
+	module  string       // the main module
+	goroot  string       // where Go's source lay, or "" if the paths are trimmed
+	version int          // 19 for Go 1.19
+	moved   uint64       // how far the running program lies from where the file says
 
-	opened      *debugInfo // once it was asked for
-	descriptors map[uint64]*Type
-	entries     map[int]*Type
-	scopes      map[scopeKey][]local
-	sources     *sources
-	used        map[usesKey][]use
-	statics     []static        // in the order of their addresses, once they were asked for
-	library     map[string]bool // whether a package is Go's
+	debugging *debugInfo // once it was asked for
+	frames    map[uint64][]Frame
+	types     map[dwarf.Offset]*Type
+	locals    map[scope][]local
+	sources   map[string]*source
+
+	statics []static        // in the order of their addresses, once they were asked for
+	library map[string]bool // whether a package is Go's
 }
 
 // Open reads the tables of a binary. Without debugging information it still has functions and lines.
 func Open(path string) (*Program, error) {
-	m, err := openImage(path)
+	f, err := os.Open(path)
 	if err != nil {
 		return nil, err
 	}
 	p := &Program{
-		image: m, symbols: readSymbols(m), frames: map[uint64][]Frame{}, texts: map[string]string{},
-		descriptors: map[uint64]*Type{}, scopes: map[scopeKey][]local{}, sources: newSources(), used: map[usesKey][]use{}, entries: map[int]*Type{}, library: map[string]bool{},
+		file: f, frames: map[uint64][]Frame{}, types: map[dwarf.Offset]*Type{},
+		locals: map[scope][]local{}, sources: map[string]*source{}, library: map[string]bool{},
 	}
-	p.readBuild()
-	if p.symbols.marks["runtime.text"] == 0 {
-		for name, at := range findMarks(m, p.version) {
-			p.symbols.marks[name] = at
-		}
-	}
-	p.lines, err = readLines(m, p.symbols.marks)
-	if err != nil {
-		m.close()
+	if err := p.read(); err != nil {
+		f.Close()
 		return nil, fmt.Errorf("%s: %w", path, err)
 	}
-	p.findRoot()
 	return p, nil
 }
 
-// Root is where Go's source lay when the program was built, or "" where the binary has no full paths.
-func (p *Program) Root() string { return p.goroot }
-
-// HasDebug reports whether the binary has debugging information, without which names are less exact.
-func (p *Program) HasDebug() bool {
-	return p.image.elf.Section(".debug_info") != nil || p.image.elf.Section(".zdebug_info") != nil
-}
-
-func (p *Program) debug() *debugInfo {
-	if p.opened == nil {
-		p.opened = openDebug(p.image)
+func (p *Program) read() (err error) {
+	if p.elf, err = elf.NewFile(p.file); err != nil {
+		return err
 	}
-	return p.opened
+	p.readBuild()
+	p.readSymbols()
+	if p.lines, err = p.readLines(); err != nil {
+		return err
+	}
+	p.findRoot()
+	return nil
 }
 
 // Close gives the file back.
-func (p *Program) Close() error { return p.image.close() }
+func (p *Program) Close() error { return p.file.Close() }
+
+// Root is where Go's source lay when the program was built, or "" where the binary has no full paths.
+func (p *Program) Root() string { return p.goroot }
 
 // Relocate tells where the text of the running program begins, which differs from the file's where the
 // program may lie anywhere.
@@ -90,26 +85,9 @@ func (p *Program) Relocate(text uint64) {
 // readBuild learns the version of Go and the main module.
 func (p *Program) readBuild() {
 	p.version = 27
-	info, err := buildinfo.Read(bytes.NewReader(p.image.file))
-	if err == nil {
+	if info, err := buildinfo.Read(p.file); err == nil {
 		p.module = info.Main.Path
-		if rest := strings.TrimPrefix(info.GoVersion, "go1."); rest != info.GoVersion {
-			end := strings.IndexFunc(rest, func(r rune) bool { return r < '0' || r > '9' })
-			if end < 0 {
-				end = len(rest)
-			}
-			if n, err := strconv.Atoi(rest[:end]); err == nil {
-				p.version = n
-			}
-		}
-	}
-	switch { // runtime's funcID_wrapper
-	case p.version < 22:
-		p.wrapper = 21
-	case p.version < 25:
-		p.wrapper = 22
-	default:
-		p.wrapper = 23
+		fmt.Sscanf(info.GoVersion, "go1.%d", &p.version)
 	}
 }
 
@@ -118,11 +96,7 @@ func (p *Program) findRoot() {
 	const inRoot = "/src/runtime/"
 	for i := 0; i < p.lines.count; i += 1 + p.lines.count/500 {
 		f, ok := p.lines.function(i)
-		if !ok {
-			continue
-		}
-		name := f.name()
-		if !strings.HasPrefix(name, "runtime.") {
+		if !ok || !strings.HasPrefix(f.name(), "runtime.") {
 			continue
 		}
 		file, _ := f.place(f.entry)
@@ -130,8 +104,41 @@ func (p *Program) findRoot() {
 			p.goroot = file[:j]
 			return
 		}
-		if strings.HasPrefix(file, "runtime/") {
-			return
-		}
 	}
+}
+
+// IsStandard reports whether a call is of Go's own source, or of what is made up for the program.
+func (p *Program) IsStandard(f Frame) bool {
+	switch {
+	case f.File == autogenerated || path.Base(f.File) == "_testmain.go":
+		return true
+	case p.goroot != "":
+		return strings.HasPrefix(f.File, p.goroot+"/src/")
+	}
+	return !p.isOwn(PackageOf(f.Function))
+}
+
+// isLibrary reports whether a package is of Go's library.
+func (p *Program) isLibrary(pkg string) bool {
+	if pkg == "" {
+		return false
+	}
+	is, ok := p.library[pkg]
+	if !ok {
+		if is = !p.isOwn(pkg); p.goroot != "" {
+			info, err := os.Stat(filepath.Join(p.goroot, "src", filepath.FromSlash(pkg)))
+			is = err == nil && info.IsDir()
+		}
+		p.library[pkg] = is
+	}
+	return is
+}
+
+// isOwn tells from a package's path alone whether it isn't Go's.
+func (p *Program) isOwn(pkg string) bool {
+	if pkg == "main" || pkg == "command-line-arguments" || pkg == p.module || strings.HasPrefix(pkg, p.module+"/") {
+		return true
+	}
+	first, _, _ := strings.Cut(pkg, "/")
+	return strings.Contains(first, ".")
 }

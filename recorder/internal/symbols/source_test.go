@@ -52,19 +52,15 @@ func TestDeclarations(t *testing.T) {
 	for line, want := range map[int]string{
 		6: "one", 10: "f", 11: "f", 12: "f", 13: "f", 14: "f", 18: "x", 19: "x", 22: "h", 25: "h", 28: "h", 30: "short", 32: "z", 3: "", 1: "", 99: "",
 	} {
-		d := newSources().declarationAt(path, line)
 		got := ""
-		if d != nil {
-			got = nameOfDeclaration(d.node)
+		if d := parse(path, nil).functionAt("sample.f", line); d != nil {
+			got = nameOfDeclaration(d)
 		}
 		if got != want {
 			t.Errorf("line %d %q: got %q, want %q", line, strings.Split(sample+strings.Repeat("\n", 99), "\n")[line-1], got, want)
 		}
-		if d != nil && (line < d.first || line > d.last) {
-			t.Errorf("line %d isn't in %d to %d", line, d.first, d.last)
-		}
 	}
-	if newSources().declarationAt(path+".none", 1) != nil {
+	if parse(path+".none", nil).functionAt("sample.f", 1) != nil {
 		t.Errorf("a file that isn't there has declarations")
 	}
 }
@@ -90,10 +86,10 @@ func TestLiterals(t *testing.T) {
 	if err := os.WriteFile(path, []byte(sample), 0o644); err != nil {
 		t.Fatal(err)
 	}
-	d := newSources().declarationAt(path, 26)
+	d := parse(path, nil)
 	for function, want := range map[string]string{"sample.h.func2": "++", "sample.h.func3": "--", "sample.h": ""} {
 		got := ""
-		if lit, ok := d.function(Frame{Function: function, File: path, Line: 26}).(*ast.FuncLit); ok {
+		if lit, ok := d.functionAt(function, 26).(*ast.FuncLit); ok {
 			got = lit.Body.List[0].(*ast.IncDecStmt).Tok.String()
 		}
 		if got != want {

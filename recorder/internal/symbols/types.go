@@ -1,47 +1,105 @@
 package symbols
 
 import (
-	"os"
-	"path/filepath"
+	"debug/dwarf"
 	"reflect"
 	"strings"
 )
 
 // Type is a type of the program, read as far as it is looked at.
 type Type struct {
-	Name string // as main.Account or []int; of a package's path the last part alone may be there
+	Name string // as example.com/bank.Account or []int
 	Size uint64
 	Kind reflect.Kind
 
 	p       *Program
-	at      uint64 // address of what package runtime has of it, in the file; 0: it has nothing
-	entry   int    // offset of the entry that tells it, where package runtime doesn't
-	pkg     string // path of the package of a named type
-	named   bool
-	count   uint64 // of an array
+	entry   *dwarf.Entry
+	isRead  bool
 	element *Type
-	fields  []Member
-	read    bool // element and fields are
+	fields  []field
 }
 
-// Member is a field of a struct.
-type Member struct {
-	Name     string
-	Offset   uint64
-	Type     *Type
-	Embedded bool
+// field is one of a struct.
+type field struct {
+	name     string
+	offset   uint64
+	typ      *Type
+	embedded bool
 }
 
-// load reads what a type is made of.
-func (t *Type) load() {
-	if t.read {
+// TypeAt answers the type that package runtime has at an offset from its types, or nil. It has more than the debugging
+// information does: what maps and closures are made of.
+func (p *Program) TypeAt(at uint64) *Type {
+	d := p.debug()
+	for _, u := range d.units {
+		if u.pkg == "runtime" { // the linker puts all types there
+			d.read(u)
+		}
+	}
+	for _, key := range []uint64{at, p.parts.types + at} { // some are told by the second
+		if t := p.typeOf(d.runtimes[key]); t != nil {
+			return t
+		}
+	}
+	return p.arrayAt(p.parts.types + at)
+}
+
+// arrayAt answers an array by what package runtime has at an address. Of one that a slice's literal is made of the debugging
+// information may have nothing.
+func (p *Program) arrayAt(addr uint64) *Type {
+	const kindAt, elementAt = 23, 48
+	if kind := p.wordAt(addr+kindAt-7) >> 56 & 31; reflect.Kind(kind) != reflect.Array {
+		return nil
+	}
+	e := p.typeOf(p.debug().runtimes[p.wordAt(addr+elementAt)-p.parts.types])
+	if e == nil {
+		return nil
+	}
+	return &Type{Name: "[]" + e.Name, Size: p.wordAt(addr), Kind: reflect.Array, p: p, isRead: true, element: e}
+}
+
+// typeOf answers the type of an entry, or nil. One that is told by another one's name is that one.
+func (p *Program) typeOf(at dwarf.Offset) *Type {
+	t, ok := p.types[at]
+	if ok || at == 0 {
+		return t
+	}
+	p.types[at] = nil // lest an entry leads to itself
+	e := p.debug().entryAt(at)
+	kind := reflect.Kind(number(e, attrGoKind))
+	if e.Tag == dwarf.TagTypedef && kind == reflect.Invalid {
+		t = p.typeOf(offset(e, dwarf.AttrType))
+	} else {
+		t = &Type{Name: nameOf(e), Size: uint64(number(e, dwarf.AttrByteSize)), Kind: kind, p: p, entry: e}
+	}
+	switch kind {
+	case reflect.Ptr, reflect.Map, reflect.Chan, reflect.Func, reflect.UnsafePointer:
+		t.Size = 8
+	case reflect.Interface:
+		t.Size = 16
+	}
+	p.types[at] = t
+	return t
+}
+
+// read reads what a type is made of.
+func (t *Type) read() {
+	if t.isRead {
 		return
 	}
-	t.read = true
-	if t.at == 0 {
-		t.loadEntry()
-	} else {
-		t.loadDescriptor()
+	t.isRead = true
+	switch t.Kind {
+	case reflect.Slice, reflect.Chan, reflect.Map:
+		t.element = t.p.typeOf(offset(t.entry, attrGoElem))
+	case reflect.Ptr, reflect.Array:
+		t.element = t.p.typeOf(offset(t.entry, dwarf.AttrType))
+	case reflect.Struct:
+		t.p.debug().children(t.entry, func(e *dwarf.Entry) {
+			if typ := t.p.typeOf(offset(e, dwarf.AttrType)); e.Tag == dwarf.TagMember && typ != nil {
+				embedded, _ := e.Val(attrGoEmbedded).(bool)
+				t.fields = append(t.fields, field{nameOf(e), uint64(number(e, dwarf.AttrDataMemberLoc)), typ, embedded})
+			}
+		})
 	}
 }
 
@@ -50,65 +108,77 @@ func (t *Type) Elem() *Type {
 	if t == nil {
 		return nil
 	}
-	t.load()
+	t.read()
 	return t.element
 }
 
-// Fields are those of a struct.
-func (t *Type) Fields() []Member {
+// pointedAt is what a pointer points at, or the type itself.
+func (t *Type) pointedAt() *Type {
+	if t != nil && t.Kind == reflect.Ptr {
+		return t.Elem()
+	}
+	return t
+}
+
+// members are the fields of a struct.
+func (t *Type) members() []field {
 	if t == nil {
 		return nil
 	}
-	t.load()
+	t.read()
 	return t.fields
 }
 
-// Len is the length of an array.
-func (t *Type) Len() uint64 {
-	t.load()
-	return t.count
+// member answers the fields that lead to one of a name, through embedded ones.
+func (t *Type) member(name string, deepest int) []field {
+	if deepest == 0 {
+		return nil
+	}
+	for _, f := range t.members() {
+		if f.name == name {
+			return []field{f}
+		}
+	}
+	for _, f := range t.members() {
+		if f.embedded {
+			if rest := f.typ.pointedAt().member(name, deepest-1); rest != nil {
+				return append([]field{f}, rest...)
+			}
+		}
+	}
+	return nil
 }
 
 // short is a named type's name in its package, without what it is made for, or "".
 func (t *Type) short() string {
-	if t == nil || !t.named {
+	if t == nil || !isNamed(t.Name) {
 		return ""
 	}
-	name := t.Name
-	if i := strings.IndexByte(name, '['); i >= 0 {
-		name = name[:i]
-	}
-	if i := strings.LastIndexByte(name, '/'); i >= 0 {
-		name = name[i+1:]
-	}
-	if i := strings.LastIndexByte(name, '.'); i >= 0 {
-		name = name[i+1:]
-	}
-	return name
+	name, _, _ := strings.Cut(t.Name, "[")
+	name, _, _ = strings.Cut(name, "·") // behind it is the number of one that a function declares
+	return name[strings.LastIndexByte(name, '.')+1:]
 }
 
-// same reports whether two types are one. One that package runtime has nothing of is told by its name.
-func (t *Type) same(o *Type) bool {
-	switch {
-	case t == nil || o == nil:
-		return false
-	case t == o:
-		return true
-	case t.at != 0 && o.at != 0:
-		return false
+// pkg is the path of the package that declares a type; "" if none does, as of int.
+func (t *Type) pkg() string {
+	if !isNamed(t.Name) || !strings.Contains(t.Name, ".") {
+		return ""
 	}
-	return t.Kind == o.Kind && t.Size == o.Size && lastPart(t.Name) == lastPart(o.Name)
+	return PackageOf(t.Name)
+}
+
+// isNamed tells a declared type, as main.Account or main.Box[int], from one like []int by its name.
+func isNamed(name string) bool {
+	i := strings.IndexAny(name, "[]*( {<")
+	return i < 0 || i > 0 && name[i] == '[' && !strings.HasPrefix(name, "map[")
 }
 
 // alike reports whether two types are one, or may be, where a generic function knows no more than the shape of one.
 func (t *Type) alike(o *Type) bool {
-	if t.same(o) {
-		return true
-	}
 	if t == nil || o == nil || t.Kind != o.Kind || t.Size != o.Size {
 		return false
 	}
-	return t.isShapeOf(o) || o.isShapeOf(t)
+	return t == o || t.isShapeOf(o) || o.isShapeOf(t)
 }
 
 func (t *Type) isShapeOf(o *Type) bool {
@@ -116,37 +186,26 @@ func (t *Type) isShapeOf(o *Type) bool {
 	return strings.HasPrefix(t.Name, shape) || strings.Contains(t.Name, shape) && t.short() == o.short()
 }
 
-// lastPart is a name without the path of its package.
-func lastPart(name string) string {
-	if i := strings.LastIndexByte(name, '/'); i >= 0 && !strings.ContainsAny(name, " [{") {
-		return name[i+1:]
-	}
-	return name
-}
-
 // isOpaque reports whether a type is a struct of Go's library that shows nobody its fields, so that a program takes it
 // for one variable. One that has locks of its own isn't: what it does under them isn't what it does without.
 func (t *Type) isOpaque() bool {
-	if t == nil || t.Kind != reflect.Struct || !isExported(t.short()) || !t.p.isLibrary(t.pkg) {
+	if t == nil || t.Kind != reflect.Struct || !isExported(t.short()) || !t.p.isLibrary(t.pkg()) {
 		return false
 	}
-	for _, f := range t.Fields() {
-		if isExported(f.Name) {
+	for _, f := range t.members() {
+		if isExported(f.name) {
 			return false
 		}
 	}
 	return t.isSync() || !t.hasSync()
 }
 
-// isInternal reports whether package runtime has a type of its own in place of that of the program's variable, as
-// runtime.timeTimer for time.Timer.
-func (t *Type) isInternal() bool { return t != nil && t.named && t.pkg == "runtime" }
-
 func isExported(name string) bool { return name != "" && name[0] >= 'A' && name[0] <= 'Z' }
 
 // isSync reports whether a type is one of package sync or sync/atomic.
 func (t *Type) isSync() bool {
-	return t.pkg == "sync" || t.pkg == "sync/atomic" || t.pkg == "internal/sync" || t.pkg == "internal/runtime/atomic"
+	pkg := t.pkg()
+	return pkg == "sync" || pkg == "sync/atomic" || pkg == "internal/sync" || pkg == "internal/runtime/atomic"
 }
 
 // hasSync reports whether a value of the type has a lock, an atomic value or a channel in it.
@@ -159,34 +218,10 @@ func (t *Type) hasSync() bool {
 	case t.Kind == reflect.Array:
 		return t.Elem().hasSync()
 	}
-	for _, f := range t.Fields() {
-		if f.Type.hasSync() {
+	for _, f := range t.members() {
+		if f.typ.hasSync() {
 			return true
 		}
 	}
 	return false
-}
-
-// isLibrary reports whether a package is of Go's library.
-func (p *Program) isLibrary(pkg string) bool {
-	is, ok := p.library[pkg]
-	if !ok {
-		if is = p.goroot != ""; is {
-			info, err := os.Stat(filepath.Join(p.goroot, "src", filepath.FromSlash(pkg)))
-			is = err == nil && info.IsDir() && pkg != ""
-		} else {
-			is = pkg != "" && !p.isOwn(pkg)
-		}
-		p.library[pkg] = is
-	}
-	return is
-}
-
-// isOwn tells from a package's path alone whether it isn't Go's.
-func (p *Program) isOwn(pkg string) bool {
-	if pkg == "main" || pkg == "command-line-arguments" || p.module != "" && (pkg == p.module || strings.HasPrefix(pkg, p.module+"/")) {
-		return true
-	}
-	first := strings.SplitN(pkg, "/", 2)[0]
-	return strings.Contains(first, ".")
 }

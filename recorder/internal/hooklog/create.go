@@ -1,10 +1,16 @@
 package hooklog
 
 import (
+	_ "embed"
 	"fmt"
 	"os"
 	"unsafe"
 )
+
+// Layout is the source of the log's layout, which the hooks have too.
+//
+//go:embed layout.go
+var Layout string
 
 // Create makes a log with room for so many chunks, 0 for DefaultChunks, that the next program writes; reader says
 // that somebody reads along. The file takes no more of the disk than what is written.

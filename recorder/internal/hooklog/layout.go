@@ -6,7 +6,7 @@ import "unsafe"
 
 const (
 	// Magic is the first word of a log.
-	Magic = 0x34306b6f6f68 // "hook04"
+	Magic = 0x35306b6f6f68 // "hook05"
 
 	// UnitSize is that of a unit in bytes: two words.
 	UnitSize = 16
@@ -43,12 +43,10 @@ type Header struct {
 	Segment uint32 // the number of the segment that is gathered
 	Stop    uint32 // 1: the reader wants no more
 	Seed    uint32 // 0: no extra switches of goroutines
-	Version uint32
-	_       uint32
 
-	Text, Types, Etypes, Data, Edata uint64 // addresses of the running program
+	Text, Types uint64 // addresses of the running program
 
-	_          [40]byte
+	_          [72]byte
 	Seq        uint64 // the number of the last step
 	_          [56]byte
 	Announced  uint32 // chunks that were handed out so far
@@ -170,15 +168,15 @@ func units(word uint64) int {
 }
 
 // regions are where the parts of a log begin.
-type regions struct{ announce, free, keys, words, chunks, end int }
+type regions struct{ announce, free, sites, words, chunks, end int }
 
 func regionsOf(chunks int) regions {
 	ring := roundUp(4 * chunks)
 	var r regions
 	r.announce = pageSize
 	r.free = r.announce + ring
-	r.keys = r.free + ring
-	r.words = r.keys + 8<<SiteBits
+	r.sites = r.free + ring // of each: one more than where its stack is, or 0
+	r.words = r.sites + 4<<SiteBits
 	r.chunks = r.words + 8*StackWords
 	r.end = r.chunks + chunks*chunkSize
 	return r

@@ -5,7 +5,6 @@ import (
 	"os"
 	"runtime/debug"
 	"sync/atomic"
-	"syscall"
 	"time"
 	"unsafe"
 )
@@ -21,13 +20,9 @@ type Sink interface {
 type Reader struct {
 	file   *os.File
 	path   string
-	mapped []byte
+	log    *Log
 	header *Header
-	chunks uint32
-
-	announce, free []uint32
-	stacks         stacks
-	base           unsafe.Pointer // of the chunks
+	stack  []uint64
 
 	next   uint32 // the first chunk that wasn't begun
 	end    uint32 // this pass goes up to there, lest it never ends while much is written
@@ -37,8 +32,8 @@ type Reader struct {
 	whole  bool // the last pass has come to the end
 	passed int  // records of this pass
 
-	back     backlog
-	writable bool
+	reuses   bool      // chunks are given back
+	done     []uint32  // those that were read to their end, and aren't yet
 	stuck    time.Time // since when the program waits for chunks that nobody can give back
 	copying  bool      // memory of the file can't be read
 	buffer   [chunkWords]uint64
@@ -68,48 +63,18 @@ func Open(path string) (*Reader, error) {
 
 // openFile maps a log that is open.
 func openFile(f *os.File, path string) (*Reader, error) {
-	r, err := mapLog(f)
+	log, err := Map(f)
 	if err != nil {
 		f.Close()
 		return nil, fmt.Errorf("%s: %w", path, err)
 	}
-	r.path = path
-	return r, nil
-}
-
-func mapLog(f *os.File) (*Reader, error) {
-	var h Header
-	if _, err := f.ReadAt((*[unsafe.Sizeof(h)]byte)(unsafe.Pointer(&h))[:], 0); err != nil || h.Magic != Magic {
-		return nil, fmt.Errorf("no log of this gorec's hooks")
-	}
-	at := regionsOf(int(h.Chunks))
-	if st, err := f.Stat(); err != nil || h.Chunks == 0 || st.Size() < int64(at.end) {
-		return nil, fmt.Errorf("the log isn't whole")
-	}
-	writable := true
-	b, err := syscall.Mmap(int(f.Fd()), 0, at.end, syscall.PROT_READ|syscall.PROT_WRITE, syscall.MAP_SHARED)
-	if err == syscall.EACCES {
-		writable = false
-		b, err = syscall.Mmap(int(f.Fd()), 0, at.end, syscall.PROT_READ, syscall.MAP_SHARED)
-	}
-	if err != nil {
-		return nil, err
-	}
-	r := &Reader{
-		file: f, mapped: b, header: (*Header)(unsafe.Pointer(&b[0])), chunks: h.Chunks,
-		announce: unsafe.Slice((*uint32)(unsafe.Pointer(&b[at.announce])), h.Chunks),
-		free:     unsafe.Slice((*uint32)(unsafe.Pointer(&b[at.free])), h.Chunks),
-		base:     unsafe.Pointer(&b[at.chunks]),
-	}
-	r.stacks.words = unsafe.Slice((*uint64)(unsafe.Pointer(&b[at.words])), StackWords)
-	r.writable = writable
-	r.back.on = h.Reader != 0 && writable
-	return r, nil
+	reuses := log.Header.Reader != 0 && log.writable
+	return &Reader{file: f, path: path, log: log, header: log.Header, reuses: reuses}, nil
 }
 
 // Close gives back the memory.
 func (r *Reader) Close() error {
-	syscall.Munmap(r.mapped)
+	r.log.Unmap()
 	return r.file.Close()
 }
 
@@ -141,17 +106,34 @@ func (r *Reader) SetSeed(seed uint32) { r.set(&r.header.Seed, seed) }
 func (r *Reader) Stop() { r.set(&r.header.Stop, 1) }
 
 func (r *Reader) set(word *uint32, value uint32) {
-	if r.writable {
+	if r.log.writable {
 		atomic.StoreUint32(word, value)
 	}
+}
+
+// Stack are the return addresses of a site, the innermost first; none where it has none, as 0. They are there until the next call.
+func (r *Reader) Stack(site uint32) []uint64 {
+	r.stack = r.stack[:0]
+	if site >= 1<<SiteBits {
+		return nil
+	}
+	err := guard(func() {
+		if at := atomic.LoadUint32(&r.log.Sites[site]); at != 0 {
+			r.stack = append(r.stack, r.log.Words[at:][:r.log.Words[at-1]]...)
+		}
+	})
+	if err != nil || len(r.stack) == 0 {
+		return nil
+	}
+	return r.stack
 }
 
 // Whole reports whether the last Read has come to the end of what was there when it began.
 func (r *Reader) Whole() bool { return r.whole }
 
-// Read reads some of what wasn't read yet: about as many records as are wanted at most, where one of many words counts as so many.
-// It goes from chunk to chunk in the
-// order in which these were handed out, and begins anew once it has come to the end of the last one.
+// Read reads some of what wasn't read yet: about as many records as are wanted at most, where one of many words counts as so
+// many. It goes from chunk to chunk in the order in which these were handed out, and begins anew once it has come to the end
+// of the last one.
 func (r *Reader) Read(to Sink, most int) (read int, err error) {
 	if r.whole = false; !r.begun {
 		r.begun, r.end = true, atomic.LoadUint32(&r.header.Announced)
@@ -171,12 +153,14 @@ func (r *Reader) Read(to Sink, most int) (read int, err error) {
 		if read += n; o.goesOn {
 			break
 		}
-		if o.done {
-			if err := r.back.add(r, o.slot); err != nil {
+		if o.done && r.reuses {
+			r.done = append(r.done, o.slot)
+		}
+		if r.cursor++; len(r.done) >= fewestBack {
+			if err := r.giveBack(); err != nil {
 				return read, err
 			}
 		}
-		r.cursor++
 	}
 	r.passed += read
 	return read, nil
@@ -190,8 +174,8 @@ func (r *Reader) current() *openChunk {
 	if r.next == r.end {
 		return nil
 	}
-	entry := atomic.LoadUint32(&r.announce[r.next%r.chunks])
-	if entry == 0 || entry > r.chunks {
+	entry := atomic.LoadUint32(&r.log.Announce[r.next%r.header.Chunks])
+	if entry == 0 || entry > r.header.Chunks {
 		return nil // not yet
 	}
 	r.next++
@@ -210,7 +194,27 @@ func (r *Reader) finish() error {
 	r.open, r.cursor, r.whole, r.begun = left, 0, true, false
 	r.watch()
 	r.passed = 0
-	return r.back.flush(r)
+	return r.giveBack()
+}
+
+// fewestBack is how many chunks are given back at once, unless a pass ends.
+const fewestBack = 256
+
+// giveBack empties chunks, and gives them back.
+func (r *Reader) giveBack() error {
+	err := guard(func() {
+		for _, slot := range r.done {
+			chunk := r.log.Chunk(slot)
+			for i := range chunk {
+				chunk[i] = 0
+			}
+			freed := atomic.LoadUint32(&r.header.Freed)
+			atomic.StoreUint32(&r.log.Free[freed%r.header.Chunks], slot)
+			atomic.StoreUint32(&r.header.Freed, freed+1)
+		}
+	})
+	r.done = r.done[:0]
+	return err
 }
 
 // longestWait is how long a program may wait for a chunk that nobody can give back.
@@ -220,7 +224,7 @@ const longestWait = 2 * time.Second
 func (r *Reader) watch() {
 	out := atomic.LoadUint32(&r.header.Announced) - atomic.LoadUint32(&r.header.Freed)
 	switch {
-	case r.passed > 0 || out < r.chunks || !r.back.on:
+	case r.passed > 0 || out < r.header.Chunks || !r.reuses:
 		r.stuck = time.Time{}
 	case r.stuck.IsZero():
 		r.stuck = time.Now()
@@ -254,14 +258,14 @@ func (r *Reader) readChunk(o *openChunk, to Sink, most int) (read int, err error
 // load copies whole records that a chunk has from its next word on, and counts them.
 func (r *Reader) load(o *openChunk, most int) (words []uint64, read int, err error) {
 	if !r.copying {
-		words, read, err = r.copyWords(o, unsafe.Slice((*uint64)(unsafe.Add(r.base, int(o.slot)*chunkSize)), chunkWords), most)
+		words, read, err = r.copyWords(o, r.log.Chunk(o.slot), most)
 		if err == nil {
 			return words, read, nil
 		}
 		r.copying = true
 	}
-	contents := unsafe.Slice((*byte)(unsafe.Pointer(&r.contents[0])), chunkSize)
-	if _, err := r.file.ReadAt(contents, int64(uintptr(r.base)-uintptr(unsafe.Pointer(&r.mapped[0])))+int64(o.slot)*chunkSize); err != nil {
+	contents := (*[chunkSize]byte)(unsafe.Pointer(&r.contents))
+	if _, err := r.file.ReadAt(contents[:], r.log.chunkAt(o.slot)); err != nil {
 		return nil, 0, fmt.Errorf("the log: %w", err)
 	}
 	return r.copyWords(o, r.contents[:], most)

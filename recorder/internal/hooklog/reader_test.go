@@ -5,7 +5,6 @@ import (
 	"os"
 	"path/filepath"
 	"reflect"
-	"strings"
 	"testing"
 	"time"
 
@@ -259,25 +258,5 @@ func TestStuck(t *testing.T) {
 	}
 	if time.Since(begin) < time.Second {
 		t.Error("it is at once")
-	}
-}
-
-func TestDump(t *testing.T) {
-	w, r := newLog(t, 4, true)
-	g := w.Goroutine(1)
-	g.Step(hooklogtest.Step{Op: hooklog.Send, Addr: 0x1000, Site: 5, Value: 3, Element: 7, Has: true})
-	g.Access(hooklog.Write, 0x2000, 0xf0, 3, 1, g.Moment(6))
-	g.Label("TestX")
-	var b strings.Builder
-	if err := hooklog.Dump(r, &b, func(site uint32) string { return fmt.Sprintf("line %d", site) }); err != nil {
-		t.Fatal(err)
-	}
-	want := `g1.1 1 send 0x1000 aux 0 gen 0 other 0 value 0x3, site 5 (line 5), element 0x7 known 1, waits at site 0 (line 0)
-g1.1 moment 1 of g1 after 1, site 6 (line 6)
-g1.1 write 0x2000 bytes 11110000 words 1 gen 3, moment 1
-g1.1 label "TestX"
-`
-	if b.String() != want {
-		t.Errorf("got\n%s", b.String())
 	}
 }

@@ -8,48 +8,46 @@ var channelRules = []rule{
 	{in: "chansend", old: `if !block && c\.closed == 0 && full\(c\) \{`,
 		new: `if !raceenabled && !block && c.closed == 0 && full(c) {`, count: 1},
 	{in: "chansend", old: `\n\tif !block \{\n\t\tunlock\(&c\.lock\)`,
-		new: "\n\tif !block {\n\t\tif raceenabled { recChan(recDefaultSend, c, nil) }; unlock(&c.lock)", count: 1},
-	{in: "chansend", old: `racenotify\(c, c\.sendx, nil\)`, new: `recChan(recSend, c, ep)`, count: 1},
+		new: "\n\tif !block {\n\t\tif raceenabled { recChan(logDefaultSend, c, nil) }; unlock(&c.lock)", count: 1},
+	{in: "chansend", old: `racenotify\(c, c\.sendx, nil\)`, new: `recChan(logSend, c, ep)`, count: 1},
 	{in: "chansend", old: `\n\tgopark\(chanparkcommit,`,
 		new: "\n\tif raceenabled { recWait() }; gopark(chanparkcommit,", count: 1},
 
 	{in: "chanrecv", old: `if !block && empty\(c\) \{`, new: `if !raceenabled && !block && empty(c) {`, count: 1},
 	{in: "chanrecv", old: `\n\tif !block \{\n\t\tunlock\(&c\.lock\)`,
-		new: "\n\tif !block {\n\t\tif raceenabled { recChan(recDefaultRecv, c, nil) }; unlock(&c.lock)", count: 1},
-	{in: "chanrecv", old: `racenotify\(c, c\.recvx, nil\)`, new: `recChan(recRecv, c, qp)`, count: 1},
-	{in: "chanrecv", old: `raceacquire\(c\.raceaddr\(\)\)`, new: `recChan(recRecvClosed, c, nil)`, count: 2},
+		new: "\n\tif !block {\n\t\tif raceenabled { recChan(logDefaultReceive, c, nil) }; unlock(&c.lock)", count: 1},
+	{in: "chanrecv", old: `racenotify\(c, c\.recvx, nil\)`, new: `recChan(logReceive, c, qp)`, count: 1},
+	{in: "chanrecv", old: `raceacquire\(c\.raceaddr\(\)\)`, new: `recChan(logReceiveClosed, c, nil)`, count: 2},
 	{in: "chanrecv", old: `\n\tgopark\(chanparkcommit,`,
 		new: "\n\tif raceenabled { recWait() }; gopark(chanparkcommit,", count: 1},
 
 	// to a receiver that waits: a meet, or a send into the empty buffer and the receive of it
 	{in: "send", old: `racesync\(c, sg\)`, new: `recMeet(c, ep, sg.g, true)`, count: 1},
-	{in: "send", old: `racenotify\(c, c\.recvx, nil\)`, new: `recChan(recSend, c, ep)`, count: 1},
-	{in: "send", old: `racenotify\(c, c\.recvx, sg\)`, new: `recChanFor(recRecv, c, ep, sg.g)`, count: 1},
+	{in: "send", old: `racenotify\(c, c\.recvx, nil\)`, new: `recChan(logSend, c, ep)`, count: 1},
+	{in: "send", old: `racenotify\(c, c\.recvx, sg\)`, new: `recChanFor(logReceive, c, ep, sg.g)`, count: 1},
 
 	// from a sender that waits: a meet, or a receive from the full buffer and the send into it
-	{in: "recv", old: `racesync\(c, sg\)`, new: `recMeet(c, sg.elem, sg.g, false)`, count: 1, to: 25},
-	{in: "recv", old: `racesync\(c, sg\)`, new: `recMeet(c, sg.elem.get(), sg.g, false)`, count: 1, from: 26},
-	{in: "recv", old: `racenotify\(c, c\.recvx, nil\)`, new: `recChan(recRecv, c, qp)`, count: 1},
-	{in: "recv", old: `racenotify\(c, c\.recvx, sg\)`, new: `recChanFor(recSend, c, sg.elem, sg.g)`, count: 1, to: 25},
-	{in: "recv", old: `racenotify\(c, c\.recvx, sg\)`, new: `recChanFor(recSend, c, sg.elem.get(), sg.g)`, count: 1, from: 26},
+	{in: "recv", old: `racesync\(c, sg\)`, new: `recMeet(c, sg.elem, sg.g, false)`, count: 1},
+	{in: "recv", old: `racenotify\(c, c\.recvx, nil\)`, new: `recChan(logReceive, c, qp)`, count: 1},
+	{in: "recv", old: `racenotify\(c, c\.recvx, sg\)`, new: `recChanFor(logSend, c, sg.elem, sg.g)`, count: 1},
 
 	{in: "closechan", old: `racewritepc\(c\.raceaddr\(\), callerpc, abi\.FuncPCABIInternal\(closechan\)\)`,
 		new: `_, _ = callerpc, abi.FuncPCABIInternal(closechan)`, count: 1},
-	{in: "closechan", old: `racerelease\(c\.raceaddr\(\)\)`, new: `recChan(recClose, c, nil)`, count: 1},
+	{in: "closechan", old: `racerelease\(c\.raceaddr\(\)\)`, new: `recChan(logClose, c, nil)`, count: 1},
 	// a sender that waits panics: it receives nothing
 	{in: "closechan", old: `(?s)(c\.sendq\.dequeue\(\).*)raceacquireg\(gp, c\.raceaddr\(\)\)`, new: `${1}_ = gp`, count: 1},
-	{in: "closechan", old: `raceacquireg\(gp, c\.raceaddr\(\)\)`, new: `recChanFor(recRecvClosed, c, nil, gp)`, count: 1},
+	{in: "closechan", old: `raceacquireg\(gp, c\.raceaddr\(\)\)`, new: `recChanFor(logReceiveClosed, c, nil, gp)`, count: 1},
 
 	// Stop and Reset of a timer take a stale value out of its channel
 	{in: "timerchandrain", old: `\n\t\tany = true\n`,
-		new: "\n\t\tany = true; if raceenabled { recChan(recRecv, c, chanbuf(c, c.recvx)) }\n", count: 1, from: 23},
+		new: "\n\t\tany = true; if raceenabled { recChan(logReceive, c, chanbuf(c, c.recvx)) }\n", count: 1, from: 23},
 }
 
 var selectRules = []rule{
 	{in: "selectgo", old: `racereadpc\(c\.raceaddr\(\), casePC\(casi\), chansendpc\)`, new: `_ = casePC`, count: 1},
-	{in: "selectgo", old: `racenotify\(c, c\.recvx, nil\)`, new: `recChan(recRecv, c, chanbuf(c, c.recvx))`, count: 1},
-	{in: "selectgo", old: `racenotify\(c, c\.sendx, nil\)`, new: `recChan(recSend, c, cas.elem)`, count: 1},
-	{in: "selectgo", old: `raceacquire\(c\.raceaddr\(\)\)`, new: `recChan(recRecvClosed, c, nil)`, count: 1},
+	{in: "selectgo", old: `racenotify\(c, c\.recvx, nil\)`, new: `recChan(logReceive, c, chanbuf(c, c.recvx))`, count: 1},
+	{in: "selectgo", old: `racenotify\(c, c\.sendx, nil\)`, new: `recChan(logSend, c, cas.elem)`, count: 1},
+	{in: "selectgo", old: `raceacquire\(c\.raceaddr\(\)\)`, new: `recChan(logReceiveClosed, c, nil)`, count: 1},
 	{in: "selectgo", old: `\n\tgopark\(selparkcommit,`, new: "\n\tif raceenabled { recWait() }; gopark(selparkcommit,", count: 1},
 	{in: "selectgo", old: `\n\tif !block \{\n\t\tselunlock`,
 		new: "\n\tif !block {\n\t\tif raceenabled { recDefault(scases, nsends) }; selunlock", count: 1},

@@ -15,8 +15,7 @@ var sliceRules = []rule{
 
 // exitRules tell the end of a program with any status.
 var exitRules = []rule{
-	{in: "os_beforeExit", old: `if raceenabled \{`, new: `if raceenabled {`, count: 1, to: 19},
-	{in: "os_beforeExit", old: `if exitCode == 0 && raceenabled \{`, new: `if raceenabled {`, count: 1, from: 21},
+	{in: "os_beforeExit", old: `if (exitCode == 0 && )?raceenabled \{`, new: `if raceenabled {`, count: 1},
 }
 
 var runtimeRules = []rule{
@@ -43,6 +42,7 @@ var coroutineRules = []rule{
 
 // testingRules tell which test, fuzz test or benchmark a goroutine runs.
 var testingRules = []rule{
+	{in: anywhere, old: `\t"internal/race"\n`, new: "$0", count: 1},
 	{in: "tRunner", old: `\n\tt\.runner = callerName\(0\)\n`,
 		new: "\n\tt.runner = callerName(0); if race.Enabled { race.Label(t.Name()) }\n", count: 1},
 }

@@ -121,14 +121,24 @@ func racereadrangepc(addr unsafe.Pointer, sz, callpc, pc uintptr) {
 func abigen_sync_atomic_LoadInt32(addr *int32) (val int32)
 `
 
+// own is what gorec's files have.
+func own(t *testing.T) map[string]bool {
+	t.Helper()
+	ours, err := ownFiles(19)
+	if err != nil {
+		t.Fatal(err)
+	}
+	return defined(ours)
+}
+
 func TestRaceGo(t *testing.T) {
 	s := small(raceGo)
-	if err := patchRace(s); err != nil || s.text != raceGoPatched {
+	if err := patchRace(s, own(t)); err != nil || s.text != raceGoPatched {
 		t.Errorf("%v, got:\n%s", err, s.text)
 	}
 	abi := "\tif kind == abi.Array {}\n\treturn\n"
 	s = small(strings.Replace(raceGo, "\treturn\n", abi, 1))
-	if err := patchRace(s); err != nil || !strings.Contains(s.text, "\t\"internal/abi\"\n") {
+	if err := patchRace(s, own(t)); err != nil || !strings.Contains(s.text, "\t\"internal/abi\"\n") {
 		t.Errorf("%v, got:\n%s", err, s.text)
 	}
 }
@@ -136,21 +146,22 @@ func TestRaceGo(t *testing.T) {
 func TestRaceGoRefused(t *testing.T) {
 	cases := []struct{ name, old, new, wrong string }{
 		{"an entry point that is called", "__tsan_fini,", "__tsan_finish,", "the entry point __tsan_finish isn't known"},
-		{"one that is declared", "__tsan_read", "__tsan_look", "the entry point __tsan_look isn't known"},
 		{"another use of one", "lock(&raceFiniLock)", "lock(&raceFiniLock); use(&__tsan_fini)", "racefini: a use of the race detector's object"},
-		{"a function", "func RaceErrors()", "func RaceFailures()", "RaceFailures: the function isn't known"},
 		{"a function in assembly", "func racereadpc(", "func racelookpc(", "racelookpc: the function in assembly isn't known"},
 		{"raceinit", "if !iscgo {", "if iscgo {", "raceinit: "},
 	}
 	for _, c := range cases {
 		t.Run(c.name, func(t *testing.T) {
-			checkRefusal(t, patchRace(small(strings.Replace(raceGo, c.old, c.new, 1))), c.wrong)
+			checkRefusal(t, patchRace(small(strings.Replace(raceGo, c.old, c.new, 1)), own(t)), c.wrong)
 		})
 	}
 }
 
 func TestAssembly(t *testing.T) {
-	ours := []file{{"runtime/race_amd64.s", "TEXT sync∕atomic·AddInt32(SB), NOSPLIT, $24-20\n\tRET\n"}}
+	ours := defined([]file{
+		{"runtime/race_amd64.s", "TEXT runtime·recCall<ABIInternal>(SB), NOSPLIT, $0-48\n\tRET\nATOMIC(sync∕atomic·AddInt32, 6, 20)\n"},
+		{"runtime/gorec.go", "func raceread(addr uintptr)\n"},
+	})
 	theirs := `TEXT	runtime·raceread<ABIInternal>(SB), NOSPLIT, $0-8
 TEXT	racecalladdr<>(SB), NOSPLIT, $0-0
 TEXT	runtime·racecall(SB), NOSPLIT, $0-0
@@ -163,7 +174,28 @@ TEXT	sync∕atomic·AddInt32(SB), NOSPLIT|NOFRAME, $0-20
 	checkRefusal(t, checkAssembly(small(more), ours), "gorec has no function sync∕atomic.NandInt32")
 	more = theirs + "TEXT	runtime·racelook<ABIInternal>(SB), NOSPLIT, $0-8\n"
 	checkRefusal(t, checkAssembly(small(more), ours), "gorec has no function runtime.racelook")
-	checkRefusal(t, checkDefined(small(raceGo), ours), "gorec's files have no function rec_init")
+}
+
+func TestOwnLayout(t *testing.T) {
+	text, err := ownLayout()
+	if err != nil {
+		t.Fatal(err)
+	}
+	for _, part := range []string{
+		"package runtime\n", "\tlogMagic = 0x", "type logHeader struct {\n\tMagic ", "\tlogLock logOp = iota + 48\n", "\nfunc logRegionsOf(chunks int) logRegions {\n",
+	} {
+		if !strings.Contains(text, part) {
+			t.Errorf("there is no %q in:\n%s", part, text)
+		}
+	}
+}
+
+func TestWithoutSplits(t *testing.T) {
+	const text, want = "// f is one.\nfunc f() {\n}\n\nfunc (t *T) g() {}\n\nfunc h()\n",
+		"// f is one.\n//go:nosplit\nfunc f() {\n}\n\n//go:nosplit\nfunc (t *T) g() {}\n\nfunc h()\n"
+	if got := withoutSplits(text); got != want {
+		t.Errorf("got:\n%s", got)
+	}
 }
 
 func TestAdapt(t *testing.T) {

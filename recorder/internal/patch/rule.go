@@ -11,10 +11,13 @@ type rule struct {
 	in    string // the function, as "chansend" or "(*Mutex).Lock"
 	old   string // a regular expression
 	new   string // what stands in its place; $1 is what the first group matched
-	count int    // how often it stands there
+	count int    // how often it stands there; 0: a watch says whether it is all
 	from  int    // the first minor version of Go that has it, or 0
 	to    int    // the last one, or 0
 }
+
+// anywhere is in place of a function: all of the file.
+const anywhere = ""
 
 // A Refusal says why the sources of a Go can't be patched.
 type Refusal struct {
@@ -49,7 +52,7 @@ func (s *source) refuse(function, format string, args ...interface{}) error {
 func (s *source) apply(rules []rule) error {
 	lines := strings.Count(s.text, "\n")
 	for _, r := range rules {
-		if r.from > s.minor || r.to != 0 && r.to < s.minor {
+		if !isIn(s.minor, r.from, r.to) {
 			continue
 		}
 		if err := s.applyOne(r); err != nil {
@@ -62,20 +65,25 @@ func (s *source) apply(rules []rule) error {
 	return nil
 }
 
+// isIn reports whether a minor version is one of these; 0 is no bound.
+func isIn(minor, from, to int) bool { return minor >= from && (to == 0 || minor <= to) }
+
 func (s *source) applyOne(r rule) error {
-	begin, end := s.function(r.in)
-	if begin < 0 {
-		return s.refuse(r.in, "no such function")
+	begin, end := 0, len(s.text)
+	if r.in != anywhere {
+		if begin, end = s.function(r.in); begin < 0 {
+			return s.refuse(r.in, "no such function")
+		}
 	}
 	old, err := regexp.Compile(r.old)
 	if err != nil {
 		return fmt.Errorf("rule for %s, %s: %w", s.name, r.in, err)
 	}
 	body := s.text[begin:end]
-	if n := len(old.FindAllStringIndex(body, -1)); n != r.count {
+	if n := len(old.FindAllStringIndex(body, -1)); r.count != 0 && n != r.count {
 		return s.refuse(r.in, "%q stands there %s, expected %s", r.old, times(n), times(r.count))
 	}
-	s.text = s.text[:begin] + old.ReplaceAllString(body, r.new) + s.text[end:]
+	s.text = s.text[:begin] + old.ReplaceAllString(body, adapt(r.new, s.minor)) + s.text[end:]
 	return nil
 }
 
@@ -88,34 +96,15 @@ func times(n int) string {
 
 // function says where a function begins and ends, in source as gofmt writes it; -1 if there isn't exactly one.
 func (s *source) function(name string) (begin, end int) {
-	begin = s.header(name)
-	if begin < 0 {
-		return -1, -1
-	}
-	opened := begin + strings.IndexByte(s.text[begin:], '\n')
-	length := strings.Index(s.text[opened:], "\n}\n")
-	if s.text[opened-1] != '{' || length < 0 {
-		return -1, -1
-	}
-	return begin, opened + length + len("\n}\n")
-}
-
-// header says where the declaration of a function begins; -1 if there isn't exactly one.
-func (s *source) header(name string) int {
+	pattern := regexp.QuoteMeta(name)
 	if receiver, method, ok := strings.Cut(name, ")."); ok {
-		pattern := `(?m)^func \(\w+ ` + regexp.QuoteMeta(strings.TrimPrefix(receiver, "(")) + `\) ` + method + `\(.*\{$`
-		at := regexp.MustCompile(pattern).FindAllStringIndex(s.text, -1)
-		if len(at) != 1 {
-			return -1
-		}
-		return at[0][0]
+		pattern = `\(\w+ ` + regexp.QuoteMeta(strings.TrimPrefix(receiver, "(")) + `\) ` + method
 	}
-	text := "\nfunc " + name + "("
-	at := strings.Index(s.text, text)
-	if at < 0 || at != strings.LastIndex(s.text, text) {
-		return -1
+	all := regexp.MustCompile(`(?sm)^func `+pattern+`\([^\n]*\{\n.*?\n\}\n`).FindAllStringIndex(s.text, -1)
+	if len(all) != 1 {
+		return -1, -1
 	}
-	return at + 1
+	return all[0][0], all[0][1]
 }
 
 // A watch names calls that have to be known: one that a new version adds may be an order that gorec doesn't tell.
@@ -153,6 +142,16 @@ func blankComments(text string) string {
 		}
 	}
 	return strings.Join(lines, "\n")
+}
+
+// withoutUnusedImport drops an import that nothing uses any more.
+func withoutUnusedImport(text, path string) string {
+	line := regexp.MustCompile(`\t"` + path + `"(; )?`)
+	without := line.ReplaceAllString(text, "")
+	if strings.Contains(blankComments(without), path[strings.LastIndexByte(path, '/')+1:]+".") {
+		return text
+	}
+	return without
 }
 
 func lineBefore(text string, at int) string {

@@ -42,6 +42,7 @@ func TestRules(t *testing.T) {
 		{"in a function", rule{in: "f", old: `racecall\((c)\)`, new: `tell($1, 1)`, count: 1}, "\t\ttell(c, 1)\n", ""},
 		{"in a method", rule{in: "(*M[T]).g", old: `racecall\(c\)`, new: `tell(c)`, count: 1}, "\ttell(c) // and", ""},
 		{"each of several", rule{in: "f", old: `return false`, new: `return true`, count: 2}, "\t\treturn true\n\t}\n\treturn true\n", ""},
+		{"anywhere", rule{in: anywhere, old: `return false`, new: `return true`}, "\t\treturn true\n\t}\n\treturn true\n", ""},
 		{"of a later version", rule{in: "none", old: `x`, count: 1, from: 20}, program, ""},
 		{"of an earlier version", rule{in: "none", old: `x`, count: 1, to: 18}, program, ""},
 		{"no such function", rule{in: "none", old: `x`, count: 1}, "", "p/p.go, none: no such function"},

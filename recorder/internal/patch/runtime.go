@@ -3,9 +3,15 @@ package patch
 import (
 	"embed"
 	"fmt"
+	"go/ast"
+	"go/format"
+	"go/parser"
+	"go/token"
 	"regexp"
 	"sort"
 	"strings"
+
+	"gorace.local/recorder/internal/hooklog"
 )
 
 // runtimeFiles are gorec's own files of package runtime. The folder's name keeps them out of builds of this module.
@@ -20,8 +26,8 @@ type file struct {
 }
 
 // ownFiles gives gorec's files as a version of Go needs them.
-func ownFiles(fs embed.FS, minor int) ([]file, error) {
-	entries, err := fs.ReadDir("_runtime")
+func ownFiles(minor int) ([]file, error) {
+	entries, err := runtimeFiles.ReadDir("_runtime")
 	if err != nil {
 		return nil, fmt.Errorf("gorec's own files: %w", err)
 	}
@@ -30,17 +36,47 @@ func ownFiles(fs embed.FS, minor int) ([]file, error) {
 		if !strings.HasSuffix(e.Name(), ".go") && !strings.HasSuffix(e.Name(), ".s") {
 			continue
 		}
-		text, err := fs.ReadFile("_runtime/" + e.Name())
+		text, err := runtimeFiles.ReadFile("_runtime/" + e.Name())
 		if err != nil {
 			return nil, fmt.Errorf("gorec's own files: %w", err)
 		}
-		files = append(files, file{"runtime/" + e.Name(), adapt(string(text), minor)})
+		files = append(files, file{"runtime/" + e.Name(), adapt(withoutSplits(string(text)), minor)})
 	}
+	layout, err := ownLayout()
+	if err != nil {
+		return nil, fmt.Errorf("gorec's own files: %w", err)
+	}
+	files = append(files, file{"runtime/gorec_layout.go", withoutSplits(layout)})
 	sort.Slice(files, func(i, j int) bool { return files[i].name < files[j].name })
 	return files, nil
 }
 
-// A name is one of package runtime that a version of Go has another name for. gorec's files use that of Go 1.19.
+var function = regexp.MustCompile(`(?m)^func .*[{}]$`)
+
+// withoutSplits has no function grow the stack.
+func withoutSplits(text string) string { return function.ReplaceAllString(text, "//go:nosplit\n$0") }
+
+// ownLayout is the log's layout for package runtime: each name of it begins with log there.
+func ownLayout() (string, error) {
+	positions := token.NewFileSet()
+	f, err := parser.ParseFile(positions, "layout.go", hooklog.Layout, parser.ParseComments)
+	if err != nil {
+		return "", err
+	}
+	ast.Inspect(f, func(n ast.Node) bool {
+		if id, ok := n.(*ast.Ident); ok && id.Obj != nil && f.Scope.Lookup(id.Name) == id.Obj {
+			id.Name = "log" + strings.ToUpper(id.Name[:1]) + id.Name[1:]
+		}
+		return true
+	})
+	var text strings.Builder
+	err = format.Node(&text, positions, f)
+	const ours, theirs = "package runtime\n\nimport (\n\t\"unsafe\"\n)\n", "import \"unsafe\"\n"
+	_, body, _ := strings.Cut(text.String(), theirs)
+	return ours + body, err
+}
+
+// A name is one of package runtime that a version of Go has another name for. gorec's files and rules use that of Go 1.19.
 type name struct {
 	old, new string
 	from     int // the minor version
@@ -49,11 +85,10 @@ type name struct {
 var names = []name{
 	{`\.ptrdata\b`, `.PtrBytes`, 21},
 	{`\b(typ|elemtype)\.size\b`, `$1.Size_`, 21},
-	{`"runtime/internal/atomic"`, `"internal/runtime/atomic"`, 23},
-	{`runtime∕internal∕atomic·`, `internal∕runtime∕atomic·`, 23},
-	{`"runtime/internal/sys"`, `"internal/runtime/sys"`, 24},
+	{`\bruntime/internal/atomic\b`, `internal/runtime/atomic`, 23},
 	{`\bgetcallerpc\(\)`, `sys.GetCallerPC()`, 24},
 	{`\bgetcallersp\(\)`, `sys.GetCallerSP()`, 24},
+	{`\bsg\.elem\b`, `sg.elem.get()`, 26},
 }
 
 // adapt gives a file of gorec's the names of a version.

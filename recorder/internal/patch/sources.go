@@ -4,8 +4,39 @@ import (
 	"fmt"
 	"os"
 	"path/filepath"
-	"strings"
 )
+
+// A change is what the overlay does to a file of Go.
+type change struct {
+	file     string // below GOROOT/src
+	rules    []rule
+	known    watch
+	more     string // comes behind it
+	from, to int    // the minor versions of Go that have it, as in a rule
+}
+
+var changes = []change{
+	{file: "runtime/chan.go", rules: channelRules, known: channelWatch},
+	{file: "runtime/select.go", rules: selectRules, known: channelWatch},
+	{file: "runtime/sema.go", rules: semaRules, known: semaWatch},
+	{file: "runtime/malloc.go", rules: mallocRules},
+	{file: "runtime/slice.go", rules: sliceRules},
+	{file: "runtime/proc.go", rules: exitRules},
+	{file: "runtime/runtime.go", rules: runtimeRules},
+	{file: "runtime/panic.go", rules: panicRules},
+	{file: "runtime/time.go", rules: timerRules, to: 22},
+	{file: "runtime/coro.go", rules: coroutineRules, from: 22},
+	{file: "sync/mutex.go", rules: mutexRules, known: mutexWatch, to: 23},
+	{file: "internal/sync/mutex.go", rules: mutexRules, known: mutexWatch, more: plain, from: 24},
+	{file: "sync/rwmutex.go", rules: rwMutexRules, known: rwMutexWatch, more: plain},
+	{file: "sync/once.go", rules: onceRules, known: onceWatch, more: onceUnlock},
+	{file: "internal/poll/fd_mutex.go", rules: fileRules, more: look},
+	{file: "internal/race/race.go", more: raceOps},
+	{file: "internal/race/norace.go", more: noRaceOps},
+	{file: "testing/fuzz.go", rules: fuzzRules},
+	{file: "testing/benchmark.go", rules: benchmarkRules},
+	{file: "testing/testing.go", rules: testingRules, more: label},
+}
 
 // patched gives all files of the overlay for a Go.
 func patched(t Toolchain) ([]file, error) {
@@ -13,207 +44,78 @@ func patched(t Toolchain) ([]file, error) {
 	if err != nil {
 		return nil, err
 	}
-	ours, err := ownFiles(runtimeFiles, minor)
+	ours, err := ownFiles(minor)
 	if err != nil {
 		return nil, err
 	}
-	return patchedWith(t, minor, ours)
+	var files []file
+	for _, c := range changes {
+		if !isIn(minor, c.from, c.to) {
+			continue
+		}
+		s, err := read(t, minor, c.file)
+		if err != nil {
+			return nil, err
+		}
+		if err := s.change(c); err != nil {
+			return nil, err
+		}
+		files = append(files, file{s.name, s.text})
+	}
+	race, err := patchedRace(t, minor, ours)
+	return append(files, race...), err
 }
 
-// patchedWith is patched with these files of gorec's.
-func patchedWith(t Toolchain, minor int, ours []file) ([]file, error) {
-	w := &work{toolchain: t, minor: minor}
-	w.patch("runtime/chan.go", channelRules, channelWatch)
-	w.patch("runtime/select.go", selectRules, channelWatch)
-	w.patch("runtime/sema.go", semaRules, semaWatch)
-	w.patch("runtime/malloc.go", mallocRules, nothing)
-	w.patch("runtime/slice.go", sliceRules, nothing)
-	w.patch("runtime/proc.go", exitRules, nothing)
-	w.patch("runtime/runtime.go", runtimeRules, nothing)
-	w.patch("runtime/panic.go", panicRules, nothing)
-	if w.minor <= 22 {
-		w.patch("runtime/time.go", timerRules, nothing)
+// read gives a source of a Go.
+func read(t Toolchain, minor int, name string) (*source, error) {
+	text, err := os.ReadFile(filepath.Join(t.Root, "src", filepath.FromSlash(name)))
+	if err != nil {
+		return nil, fmt.Errorf("reading the sources of %s: %w", t.Version, err)
 	}
-	if w.minor >= 22 {
-		w.patch("runtime/coro.go", coroutineRules, nothing)
+	return &source{version: t.Version, minor: minor, name: name, text: string(text)}, nil
+}
+
+func (s *source) change(c change) error {
+	if err := s.apply(c.rules); err != nil {
+		return err
 	}
-	w.patchMutex()
-	w.patchRWMutex()
-	w.patchOnce()
-	w.patchRace(ours)
-	w.patchTesting()
-	if w.err != nil {
-		return nil, w.err
+	if c.known.calls != "" {
+		if err := s.check(c.known); err != nil {
+			return err
+		}
 	}
-	return w.files, nil
+	s.text = withoutUnusedImport(s.text, "sync/atomic") + adapt(c.more, s.minor)
+	return nil
 }
 
 // assembly is the file that gorec's own stands for.
 const assembly = "runtime/race_amd64.s"
 
-// nothing is known by no call: such a file has other calls, which stay.
-var nothing = watch{}
-
-// work gathers the files of an overlay. err is the first error.
-type work struct {
-	toolchain Toolchain
-	minor     int
-	files     []file
-	err       error
-}
-
-func (w *work) path(name string) string {
-	return filepath.Join(w.toolchain.Root, "src", filepath.FromSlash(name))
-}
-
-// read gives a source of Go, or nil after an error.
-func (w *work) read(name string) *source {
-	if w.err != nil {
-		return nil
-	}
-	text, err := os.ReadFile(w.path(name))
+// patchedRace gives race.go, with gorec's Go files behind it, and gorec's own assembly.
+func patchedRace(t Toolchain, minor int, ours []file) ([]file, error) {
+	race, err := read(t, minor, "runtime/race.go")
 	if err != nil {
-		w.err = fmt.Errorf("reading the sources of %s: %w", w.toolchain.Version, err)
-		return nil
+		return nil, err
 	}
-	return &source{version: w.toolchain.Version, minor: w.minor, name: name, text: string(text)}
-}
-
-// add keeps a patched source, unless patching it failed.
-func (w *work) add(s *source, err error) {
+	asm, err := read(t, minor, assembly)
 	if err != nil {
-		w.err = err
-		return
+		return nil, err
 	}
-	w.files = append(w.files, file{s.name, s.text})
-}
-
-func (w *work) patch(name string, rules []rule, known watch) {
-	s := w.read(name)
-	if s == nil {
-		return
+	have := defined(ours)
+	if err := checkAssembly(asm, have); err != nil {
+		return nil, err
 	}
-	err := s.apply(rules)
-	if err == nil && known.calls != "" {
-		err = s.check(known)
+	if err := patchRace(race, have); err != nil {
+		return nil, err
 	}
-	w.add(s, err)
-}
-
-// mutexPackage is where Mutex is: package sync's refers to that of internal/sync from Go 1.24 on.
-func (w *work) mutexPackage() string {
-	if w.minor >= 24 {
-		return "internal/sync"
+	if err := joinOurs(race, ours); err != nil {
+		return nil, err
 	}
-	return "sync"
-}
-
-func (w *work) patchMutex() {
-	s := w.read(w.mutexPackage() + "/mutex.go")
-	if s == nil {
-		return
-	}
-	err := s.apply(mutexRules)
-	if err == nil {
-		err = s.check(mutexWatch)
-	}
-	s.text = withoutUnusedImport(s.text, "atomic", "sync/atomic")
-	if w.mutexPackage() != "sync" {
-		s.text += plain
-	}
-	w.add(s, err)
-}
-
-func (w *work) patchRWMutex() {
-	s := w.read("sync/rwmutex.go")
-	if s == nil {
-		return
-	}
-	err := s.apply(rwMutexRules)
-	if err == nil {
-		err = s.check(rwMutexWatch)
-	}
-	s.text = withoutUnusedImport(s.text, "atomic", "sync/atomic") + plain
-	w.add(s, err)
-}
-
-func (w *work) patchOnce() {
-	s := w.read("sync/once.go")
-	if s == nil {
-		return
-	}
-	if strings.Count(s.text, onceImports) != 1 {
-		w.err = s.refuse("", "it has other imports than sync/atomic")
-		return
-	}
-	s.text = strings.Replace(s.text, onceImports, ourImports, 1)
-	err := s.apply(onceRules)
-	if err == nil {
-		err = s.check(onceWatch)
-	}
-	if !strings.Contains(blankComments(s.text), "atomic.") {
-		s.text = strings.Replace(s.text, ourImports, ourImportsAlone, 1)
-	}
-	s.text += onceUnlock
-	w.add(s, err)
-}
-
-// patchRace patches race.go and internal/race, and compares gorec's files with what Go has.
-func (w *work) patchRace(ours []file) {
-	race, asm := w.read("runtime/race.go"), w.read(assembly)
-	internal, none := w.read("internal/race/race.go"), w.read("internal/race/norace.go")
-	if w.err != nil {
-		return
-	}
-	if w.err = checkAssembly(asm, ours); w.err != nil {
-		return
-	}
-	if w.err = checkDefined(race, ours); w.err != nil {
-		return
-	}
-	pushes := strings.Contains(race.text, "//go:linkname race_Acquire internal/race.Acquire\n")
-	imports := strings.Contains(internal.text, "\truntime.RaceAcquire(addr)\n")
-	if pushes == imports {
-		w.err = internal.refuse("", "how it reaches package runtime isn't known")
-		return
-	}
-	err := patchRace(race)
-	race.text += plainFor("sync")
-	if w.mutexPackage() != "sync" {
-		race.text += plainFor(w.mutexPackage())
-	}
-	if pushes {
-		race.text += pushedByRuntime
-		internal.text += lockKinds + raceByLinkname
-	} else {
-		internal.text += lockKinds + raceByImport
-	}
-	none.text += lockKinds + noRace
+	files := []file{{race.name, race.text}}
 	for _, f := range ours {
 		if f.name == assembly {
-			w.files = append(w.files, f)
+			files = append(files, f)
 		}
 	}
-	if err == nil {
-		err = joinOurs(race, ours)
-	}
-	w.add(race, err)
-	w.add(internal, w.err)
-	w.add(none, w.err)
-}
-
-func (w *work) patchTesting() {
-	w.patch("testing/fuzz.go", fuzzRules, nothing)
-	w.patch("testing/benchmark.go", benchmarkRules, nothing)
-	s := w.read("testing/testing.go")
-	if s == nil {
-		return
-	}
-	if !strings.Contains(s.text, "\t\"internal/race\"\n") {
-		w.err = s.refuse("", "it doesn't import internal/race")
-		return
-	}
-	err := s.apply(testingRules)
-	s.text += label
-	w.add(s, err)
+	return files, nil
 }

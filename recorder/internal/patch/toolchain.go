@@ -18,8 +18,11 @@ type Toolchain struct {
 	Arch    string // GOARCH of what it builds
 }
 
-// supported lists the minor versions of Go 1 that the recorder's suites have passed.
-var supported = []int{19, 21, 22, 23, 24, 25, 26, 27}
+// supported are the versions that the recorder's suites have passed.
+const supported = "go1.19 and go1.21 to go1.27"
+
+// isSupported reports whether the minor version of Go 1 is one of these.
+func isSupported(minor int) bool { return minor == 19 || minor >= 21 && minor <= 27 }
 
 // Find asks the go command which Go it is. It runs in dir with env, or with this process's environment if env is nil.
 func Find(command, dir string, env []string) (Toolchain, error) {
@@ -52,37 +55,7 @@ func (t Toolchain) minor() (int, error) {
 		}
 	}
 	return 0, fmt.Errorf("gorec doesn't record programs of %s, only of %s: another version has to be taken up first (%s)",
-		t.Version, supportedVersions(), guide)
-}
-
-func isSupported(minor int) bool {
-	for _, n := range supported {
-		if n == minor {
-			return true
-		}
-	}
-	return false
-}
-
-// supportedVersions names the supported versions with runs joined, as "go1.19 and go1.21 to go1.27".
-func supportedVersions() string {
-	var runs []string
-	for i := 0; i < len(supported); {
-		j := i
-		for j+1 < len(supported) && supported[j+1] == supported[j]+1 {
-			j++
-		}
-		run := fmt.Sprintf("go1.%d", supported[i])
-		if j > i {
-			run += fmt.Sprintf(" to go1.%d", supported[j])
-		}
-		runs = append(runs, run)
-		i = j + 1
-	}
-	if n := len(runs) - 1; n > 0 {
-		return strings.Join(runs[:n], ", ") + " and " + runs[n]
-	}
-	return runs[0]
+		t.Version, supported, guide)
 }
 
 // guide says where a reader finds how a version is taken up.

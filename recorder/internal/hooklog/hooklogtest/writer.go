@@ -5,26 +5,14 @@ import (
 	"fmt"
 	"os"
 	"sync/atomic"
-	"syscall"
-	"unsafe"
 
 	"gorace.local/recorder/internal/hooklog"
 )
 
-const (
-	page       = 4096
-	chunkWords = 2 * hooklog.ChunkUnits
-)
-
 // Writer writes a log in place of a program.
 type Writer struct {
-	Header *hooklog.Header
-
-	announce, free  []uint32
-	keys, stackWord []uint64
-	chunks          []uint64
-	rests           [][]uint64 // of chunks, which ended goroutines left
-	mapped          []byte
+	*hooklog.Log
+	rests [][]uint64 // of chunks, which ended goroutines left
 }
 
 // Open maps a log that hooklog.Create made.
@@ -34,54 +22,20 @@ func Open(path string) (*Writer, error) {
 		return nil, err
 	}
 	defer f.Close()
-	st, err := f.Stat()
-	if err != nil {
-		return nil, err
-	}
-	b, err := syscall.Mmap(int(f.Fd()), 0, int(st.Size()), syscall.PROT_READ|syscall.PROT_WRITE, syscall.MAP_SHARED)
-	if err != nil {
-		return nil, err
-	}
-	w := &Writer{Header: (*hooklog.Header)(unsafe.Pointer(&b[0])), mapped: b}
-	n := w.Header.Chunks
-	at, ring := page, (4*int(n)+page-1)/page*page
-	w.announce = unsafe.Slice((*uint32)(unsafe.Pointer(&b[at])), n)
-	w.free = unsafe.Slice((*uint32)(unsafe.Pointer(&b[at+ring])), n)
-	at += 2 * ring
-	w.keys = unsafe.Slice((*uint64)(unsafe.Pointer(&b[at])), 1<<hooklog.SiteBits)
-	at += 8 << hooklog.SiteBits
-	w.stackWord = unsafe.Slice((*uint64)(unsafe.Pointer(&b[at])), hooklog.StackWords)
-	at += 8 * hooklog.StackWords
-	w.chunks = unsafe.Slice((*uint64)(unsafe.Pointer(&b[at])), int(n)*chunkWords)
-	return w, nil
+	log, err := hooklog.Map(f)
+	return &Writer{Log: log}, err
 }
 
 // Close unmaps the log.
-func (w *Writer) Close() error { return syscall.Munmap(w.mapped) }
+func (w *Writer) Close() error { return w.Unmap() }
 
 // Site has a site be a stack, whose innermost return address is the first.
 func (w *Writer) Site(site uint32, addresses ...uint64) {
 	n := uint64(len(addresses))
-	at := atomic.AddUint64(&w.Header.Words, n+2) - n - 2
-	w.keys[site] = uint64(site) | 1
-	w.stackWord[at+1] = n
-	copy(w.stackWord[at+2:], addresses)
-	atomic.StoreUint64(&w.stackWord[at], uint64(site))
-}
-
-// chunk hands out another chunk.
-func (w *Writer) chunk() []uint64 {
-	n, most := w.Header.Announced, w.Header.Chunks
-	slot := n
-	if n >= most {
-		if atomic.LoadUint32(&w.Header.Freed) <= n-most {
-			panic(fmt.Sprintf("no chunk is free: %d were handed out", n))
-		}
-		slot = w.free[(n-most)%most]
-	}
-	atomic.StoreUint32(&w.announce[n%most], slot+1)
-	atomic.StoreUint32(&w.Header.Announced, n+1)
-	return w.chunks[int(slot)*chunkWords : int(slot+1)*chunkWords]
+	at := atomic.AddUint64(&w.Header.Words, n+1) - n - 1
+	w.Words[at] = n
+	copy(w.Words[at+1:], addresses)
+	atomic.StoreUint32(&w.Sites[site], uint32(at+1))
 }
 
 // room is what an ended goroutine left of a chunk, or another one.
@@ -91,7 +45,17 @@ func (w *Writer) room() []uint64 {
 		w.rests = w.rests[:n-1]
 		return rest
 	}
-	return w.chunk()
+	n, most := w.Header.Announced, w.Header.Chunks
+	slot := n
+	if n >= most {
+		if atomic.LoadUint32(&w.Header.Freed) <= n-most {
+			panic(fmt.Sprintf("no chunk is free: %d were handed out", n))
+		}
+		slot = w.Free[(n-most)%most]
+	}
+	atomic.StoreUint32(&w.Announce[n%most], slot+1)
+	atomic.StoreUint32(&w.Header.Announced, n+1)
+	return w.Chunk(slot)
 }
 
 // Goroutine writes the records of a goroutine.

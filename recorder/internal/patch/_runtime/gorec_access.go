@@ -10,7 +10,6 @@ import (
 	"unsafe"
 )
 
-//go:nosplit
 func racefuncenter(callpc uintptr) {
 	gp := getg()
 	t := (*recThread)(unsafe.Pointer(gp.racectx))
@@ -22,7 +21,7 @@ func racefuncenter(callpc uintptr) {
 	for (*recFrame)(unsafe.Pointer(top)).depth >= depth {
 		top -= recFrameSize
 	}
-	if top+recFrameSize < t.end {
+	if top+2*recFrameSize <= t.end {
 		top += recFrameSize
 		f := (*recFrame)(unsafe.Pointer(top))
 		f.pc, f.depth, f.known = callpc, depth, 0
@@ -30,7 +29,6 @@ func racefuncenter(callpc uintptr) {
 	t.top = top
 }
 
-//go:nosplit
 func racefuncexit() {
 	gp := getg()
 	t := (*recThread)(unsafe.Pointer(gp.racectx))
@@ -43,273 +41,176 @@ func racefuncexit() {
 	}
 }
 
-//go:nosplit
-func raceread(addr uintptr) {
-	gp := getg()
-	t := (*recThread)(unsafe.Pointer(gp.racectx))
-	c := recCellOf(addr)
-	if t == nil || c == nil {
-		return
-	}
-	mask, o := uint8(1)<<(addr&7), c.owner
-	if o == t.me {
-		if recIsNow(t, c.w) && mask&^c.wmask == 0 || recIsNow(t, c.r) && mask&^c.rmask == 0 {
-			return
-		}
-	} else if tag, r := t.tag, c.r; o>>30 == recShared>>30 && mask&^c.rmask == 0 &&
-		(o&recTag == tag || o>>recTagBits&recTag == tag || r&recTag == tag || r>>recTagBits&recTag == tag) {
-		return
-	}
+// raceread and racewrite are in assembly: they return if this goroutine did the same since its last step that releases, else go
+// on to recSingle.
+func raceread(addr uintptr)
+func racewrite(addr uintptr)
+
+// recSingle notes an access of a single word that may have to be written: with recWrites, that of a write. If the place goes on
+// with a run of words that several goroutines use, there is little to do.
+func recSingle(how uintptr) {
+	gp, addr, write := getg(), how&^recWrites, how&recWrites != 0
 	if addr-gp.stack.lo < gp.stack.hi-gp.stack.lo {
 		return // nobody else uses the running stack
 	}
-	recCall(abi.FuncPCABIInternal(recWord1), t, addr, uintptr(mask), getcallerpc(), gp.stack.hi-getcallersp())
+	t, c, mask := (*recThread)(unsafe.Pointer(gp.racectx)), recCellOf(addr), uint8(1)<<(addr&7)
+	if c.rmask&^mask != 0 && !write && recRepeats(t, c, addr, mask, false) {
+		return
+	}
+	pc, depth := getcallerpc(), gp.stack.hi-getcallersp()
+	f := (*recFrame)(unsafe.Pointer(t.top))
+	key := recMix(f.hash, pc) | 1
+	m := &t.moments[key>>(64-recMomentBits)]
+	if m.key == key && m.stamp == t.stamp && f.known != 0 && f.depth <= uint32(depth) && recHead().Segment == t.segment &&
+		(recExtendsOwn(t, c, mask, m.run.id, write) || recExtends(t, &m.run, c, addr&^7, mask, write)) {
+		return
+	}
+	recCall(abi.FuncPCABIInternal(recSingleAt), t, how, pc, depth, 0)
 }
 
-//go:nosplit
-func racewrite(addr uintptr) {
-	gp := getg()
-	t := (*recThread)(unsafe.Pointer(gp.racectx))
-	c := recCellOf(addr)
-	if t == nil || c == nil {
-		return
-	}
-	mask := uint8(1) << (addr & 7)
-	if c.owner == t.me && recIsNow(t, c.w) && mask&^c.wmask == 0 {
-		return
-	}
-	if addr-gp.stack.lo < gp.stack.hi-gp.stack.lo {
-		return
-	}
-	recCall(abi.FuncPCABIInternal(recWord1), t, addr, uintptr(mask)|recWrites, getcallerpc(), gp.stack.hi-getcallersp())
-}
-
-//go:nosplit
 func racereadrange(addr, size uintptr) {
-	gp := getg()
-	if t := (*recThread)(unsafe.Pointer(gp.racectx)); t != nil && size != 0 && recCellOf(addr) != nil &&
-		addr-gp.stack.lo >= gp.stack.hi-gp.stack.lo {
-		recAccessOf(t, addr, size, getcallerpc(), gp.stack.hi-getcallersp(), false)
-	}
+	recNote(&recRange{addr: addr, size: size, pc: getcallerpc(), sp: getcallersp()})
 }
 
-//go:nosplit
 func racewriterange(addr, size uintptr) {
-	gp := getg()
-	if t := (*recThread)(unsafe.Pointer(gp.racectx)); t != nil && size != 0 && recCellOf(addr) != nil &&
-		addr-gp.stack.lo >= gp.stack.hi-gp.stack.lo {
-		recAccessOf(t, addr, size, getcallerpc(), gp.stack.hi-getcallersp(), true)
-	}
+	recNote(&recRange{addr: addr, size: size, pc: getcallerpc(), sp: getcallersp(), write: true})
 }
 
-// What package runtime itself tells, of maps, channels and copies: the place is found by frame pointers.
+// What package runtime itself tells, of maps, channels and copies, and programs that call runtime.RaceRead and the like: the place
+// is found by frame pointers.
 
-//go:nosplit
-func racereadpc(p unsafe.Pointer, callpc, pc uintptr) {
-	t, addr := recContext(), uintptr(p)
-	c := recCellOf(addr)
-	if t == nil || c == nil {
-		return
-	}
-	if mask := uint8(1) << (addr & 7); !recRepeatsRead(t, c, addr, mask) {
-		recByRuntime(addr, 1, recFP(), false)
-	}
-}
+func racereadpc(p unsafe.Pointer, callpc, pc uintptr) { recByRuntime(uintptr(p), 1, recFP(), false) }
 
-//go:nosplit
-func racewritepc(p unsafe.Pointer, callpc, pc uintptr) {
-	t, addr := recContext(), uintptr(p)
-	c := recCellOf(addr)
-	if t == nil || c == nil {
-		return
-	}
-	if mask := uint8(1) << (addr & 7); !recRepeatsWrite(t, c, addr, mask) {
-		recByRuntime(addr, 1, recFP(), true)
-	}
-}
+func racewritepc(p unsafe.Pointer, callpc, pc uintptr) { recByRuntime(uintptr(p), 1, recFP(), true) }
 
-//go:nosplit
 func racereadrangepc1(addr, size, pc uintptr) { recByRuntime(addr, size, recFP(), false) }
 
-//go:nosplit
 func racewriterangepc1(addr, size, pc uintptr) { recByRuntime(addr, size, recFP(), true) }
 
-//go:nosplit
+func RaceRead(p unsafe.Pointer) { recByRuntime(uintptr(p), 1, recFP(), false) }
+
+func RaceWrite(p unsafe.Pointer) { recByRuntime(uintptr(p), 1, recFP(), true) }
+
+func RaceReadRange(p unsafe.Pointer, n int) { recByRuntime(uintptr(p), uintptr(n), recFP(), false) }
+
+func RaceWriteRange(p unsafe.Pointer, n int) { recByRuntime(uintptr(p), uintptr(n), recFP(), true) }
+
 func recByRuntime(addr, size, fp uintptr, write bool) {
+	recNote(&recRange{addr: addr, size: size, fp: fp, write: write})
+}
+
+// recRange is an access of the words of a range. fp: the frame pointer of a hook of package runtime, else 0.
+type recRange struct {
+	addr, size, pc, sp, fp uintptr
+	write                  bool
+}
+
+// recNote notes an access of a range, unless that is within a word and repeats what the goroutine did.
+func recNote(a *recRange) {
 	gp := getg()
-	t := (*recThread)(unsafe.Pointer(gp.racectx))
-	if t == nil || size == 0 || recCellOf(addr) == nil || addr-gp.stack.lo < gp.stack.hi-gp.stack.lo {
+	t, c := (*recThread)(unsafe.Pointer(gp.racectx)), recCellOf(a.addr)
+	if t == nil || c == nil || a.size == 0 || a.addr-gp.stack.lo < gp.stack.hi-gp.stack.lo ||
+		a.addr&7+a.size <= 8 && recRepeats(t, c, a.addr, recMaskOf(a.addr, a.addr+a.size), a.write) {
 		return
 	}
-	a := recRange{addr: addr, size: size, fp: fp, write: write}
-	if size == 1 {
-		a.first = 1 << (addr & 7)
-	}
-	recCall(abi.FuncPCABIInternal(recWords), t, uintptr(unsafe.Pointer(&a)), 0, 0, 0)
+	recCall(abi.FuncPCABIInternal(recWords), t, uintptr(unsafe.Pointer(a)), 0, 0, 0)
 }
 
-// The hooks of programs that call runtime.RaceRead and the like.
-
-//go:nosplit
-func RaceRead(addr unsafe.Pointer) { recByRuntime(uintptr(addr), 1, recFP(), false) }
-
-//go:nosplit
-func RaceWrite(addr unsafe.Pointer) { recByRuntime(uintptr(addr), 1, recFP(), true) }
-
-//go:nosplit
-func RaceReadRange(addr unsafe.Pointer, len int) {
-	recByRuntime(uintptr(addr), uintptr(len), recFP(), false)
-}
-
-//go:nosplit
-func RaceWriteRange(addr unsafe.Pointer, len int) {
-	recByRuntime(uintptr(addr), uintptr(len), recFP(), true)
-}
-
-// recRepeatsRead reports whether a read would repeat one of this goroutine's, or find what it wrote, with no step between
+// recRepeats reports whether an access would repeat one of this goroutine's, or a read find what it wrote, with no step between
 // that releases.
-//
-//go:nosplit
-func recRepeatsRead(t *recThread, c *recCell, addr uintptr, mask uint8) bool {
-	if c.owner == t.me {
-		return recIsNow(t, c.r) && mask&^c.rmask == 0 || recIsNow(t, c.w) && mask&^c.wmask == 0 ||
-			(c.rmask|c.wmask) != 0 && recIsTold(t, addr, mask, false)
-	}
-	if c.owner&recShared == 0 || c.owner == recLocked {
-		return false
-	}
-	if recIsNow(t, c.w) && mask&^c.wmask == 0 || recHasTag(c, t.tag) && mask&^c.rmask == 0 {
+func recRepeats(t *recThread, c *recCell, addr uintptr, mask uint8, write bool) bool {
+	if recIsNow(t, c.w) && mask&^c.wmask == 0 {
 		return true
 	}
-	e := recToldOf(t, addr)
-	return e.addr == addr && e.w == c.w && !e.write && recIsNow(t, e.id) && mask&^e.mask == 0
-}
-
-// recHasTag reports whether a goroutine has read a word that several use, since the word's last write and since the
-// goroutine's last step that releases.
-//
-//go:nosplit
-func recHasTag(c *recCell, tag uint32) bool {
-	x, y := c.owner, c.r
-	return x&recTag == tag || x>>recTagBits&recTag == tag || y&recTag == tag || y>>recTagBits&recTag == tag
-}
-
-//go:nosplit
-func recRepeatsWrite(t *recThread, c *recCell, addr uintptr, mask uint8) bool {
-	if c.owner == t.me {
-		return recIsNow(t, c.w) && mask&^c.wmask == 0 || c.wmask != 0 && recIsTold(t, addr, mask, true)
+	e := recToldOf(t, addr, write)
+	told := e.word == addr&^7 && recIsNow(t, e.id) && mask&^e.mask == 0
+	switch o := c.owner &^ recAgain; {
+	case o == t.me && write:
+		return c.wmask != 0 && told
+	case o == t.me:
+		return recIsNow(t, c.r) && mask&^c.rmask == 0 || c.rmask|c.wmask != 0 && told
+	case o>>30 == recShared>>30 && !write:
+		return mask&^recHasRead(t, c) == 0 || told && e.w == c.w
 	}
-	return c.owner&recShared != 0 && c.owner != recLocked && recIsNow(t, c.w) && mask&^c.wmask == 0
+	return false
 }
 
-// recToldOf is where an access of an address may be remembered.
-//
-//go:nosplit
-func recToldOf(t *recThread, addr uintptr) *recAccess {
-	return &t.accesses[(addr>>3^addr<<2)%recAccessCache]
+// recHasRead are the bytes of a word of several goroutines that this one has read, by the tags.
+func recHasRead(t *recThread, c *recCell) uint8 {
+	switch {
+	case c.rmask == 0:
+		return 0
+	case recHasTag(c.owner^t.tags, c.r^t.tags):
+		return c.rmask
+	case recHasTag((c.owner|recOdd)^t.tags, (c.r|recOdd)^t.tags):
+		return c.rmask & -c.rmask
+	}
+	return 0
 }
 
-// recIsTold reports whether an access of a word that this goroutine alone uses was written since its last step that releases.
-//
-//go:nosplit
-func recIsTold(t *recThread, addr uintptr, mask uint8, write bool) bool {
-	e := recToldOf(t, addr)
-	return e.addr == addr && e.write == write && recIsNow(t, e.id) && mask&^e.mask == 0
+// recHasTag reports whether one of four tags is that of the goroutine, whose bits they differ in.
+func recHasTag(x, y uint32) bool {
+	return x&recTag == 0 || x&(recTag<<recTagBits) == 0 || y&recTag == 0 || y&(recTag<<recTagBits) == 0
+}
+
+// recToldOf is where accesses of a word may be remembered.
+func recToldOf(t *recThread, addr uintptr, write bool) *recAccess {
+	i := addr >> 3 << 1
+	if write {
+		i++
+	}
+	return &t.accesses[i%recAccessCache]
+}
+
+// recRemember remembers an access that was written, with others of the word.
+func recRemember(t *recThread, addr uintptr, w, id uint32, mask uint8, write bool) {
+	e := recToldOf(t, addr, write)
+	if e.word == addr&^7 && e.w == w && recIsNow(t, e.id) {
+		mask |= e.mask
+	}
+	e.word, e.w, e.id, e.mask = addr&^7, w, id, mask
 }
 
 // recIsNow reports whether a moment is one of this goroutine's since its last step that releases.
-//
-//go:nosplit
 func recIsNow(t *recThread, id uint32) bool { return id-t.epoch < t.moment-t.epoch }
 
-// recRange is an access of several words, or one by package runtime. fp: the frame pointer of a hook there, else 0.
-type recRange struct {
-	addr, size, pc, fp, depth uintptr
-	first                     uint8 // the bytes of a single word that are meant, or 0: all of the range
-	write                     bool
-}
+// recWrites is beside the address of an access that writes.
+const recWrites = 1 << 63
 
-// recWrites is beside the mask of an access that writes.
-const recWrites = 1 << 8
-
-//go:nosplit
-func recAccessOf(t *recThread, addr, size uintptr, pc, depth uintptr, write bool) {
-	a := recRange{addr: addr, size: size, pc: pc, depth: depth, write: write}
-	recCall(abi.FuncPCABIInternal(recWords), t, uintptr(unsafe.Pointer(&a)), 0, 0, 0)
-}
-
-// recWord1 notes an access of a single word, on the system stack.
-//
-//go:nosplit
-func recWord1(t *recThread, addr, how, pc, depth uintptr) {
-	c, mask, write := recCellOf(addr), uint8(how), how&recWrites != 0
-	if !recOn || write && recRepeatsWrite(t, c, addr, mask) || !write && recRepeatsRead(t, c, addr, mask) {
+// recSingleAt notes an access of a single word, on the system stack.
+func recSingleAt(t *recThread, how, pc, depth uintptr) {
+	addr, write := how&^recWrites, how&recWrites != 0
+	c, mask := recCellOf(addr), uint8(1)<<(addr&7)
+	if !recOn || recRepeats(t, c, addr, mask, write) {
 		return
 	}
-	f := (*recFrame)(unsafe.Pointer(t.top))
-	if f.depth > uint32(depth) {
-		recDrop(t, uint32(depth))
-		f = (*recFrame)(unsafe.Pointer(t.top))
-	}
-	calls := f.hash
-	if f.known == 0 {
-		calls = recCalls(t)
-	}
-	key := recMix(calls, pc) | 1
-	id := recLastMoment(t, key)
-	if id == 0 {
-		if id = recNewMomentAt(t, key, pc); id == 0 {
-			return
-		}
-	}
-	if recTouch(t, c, addr, mask, id, write) {
+	var in recInner
+	recDirect(t, &in, pc, depth)
+	m := recMomentOf(t, &in)
+	if recTouch(t, c, addr, mask, m.run.id, write) {
 		recObjectOf(t, c, addr)
-		recTellSoon(t, key>>(64-recMomentBits), addr&^7, mask, c.gen, write)
+		recTellSoon(t, m, addr&^7, mask, c.gen, write)
 	}
 }
 
-// recTellSoon notes that an access has to be written: with those of the words after it, if such come from the same place
-// before the goroutine's next step.
-//
-//go:nosplit
-func recTellSoon(t *recThread, at uint64, addr uintptr, mask uint8, gen uint16, write bool) {
-	e := &t.moments[at]
-	if e.n != 0 {
-		if addr == e.from+8*uintptr(e.n) && mask == e.mask && gen == e.gen && e.n < 1<<16-1 {
-			e.n++
-			return
-		}
-		if e.n == 1 && addr == e.from && gen == e.gen && recIsRun(e.mask|mask) {
-			e.mask |= mask
-			return
-		}
-		recTellEntry(t, e)
-	}
-	e.from, e.n, e.gen, e.mask, e.write = addr, 1, gen, mask, write
-	if !e.listed {
-		e.listed = true
-		t.list[t.pending%recMomentCache] = uint8(at)
+// recTellSoon notes that an access has to be written: with those of other words, if such come from the same place before the
+// goroutine's next step.
+func recTellSoon(t *recThread, m *recMoment, word uintptr, mask uint8, gen uint16, write bool) {
+	m.run.write = write
+	recJoin(t, &m.run, word, mask, gen, m.run.id)
+	if !m.listed {
+		m.listed = true
+		t.list[t.pending%recMomentCache] = uint8(m.key >> (64 - recMomentBits))
 		t.pending++
 	}
 }
 
-//go:nosplit
-func recTellEntry(t *recThread, e *recMoment) {
-	n := e.n
-	e.n = 0
-	recTell(t, e.from, uintptr(n), e.mask, e.gen, e.id, e.write)
-}
-
 // recTellPending writes what a goroutine has put off, into the log of t.
-//
-//go:nosplit
 func recTellPending(t, of *recThread) {
 	for i := uint32(0); i < of.pending; i++ {
-		e := &of.moments[of.list[i%recMomentCache]%recMomentCache]
-		e.listed = false
-		if e.n != 0 {
-			recTellEntry(t, e)
-		}
+		m := &of.moments[of.list[i%recMomentCache]%recMomentCache]
+		m.listed = false
+		recTellRun(t, &m.run)
 	}
 	of.pending = 0
 	recTellRun(t, &of.sharedWrites)
@@ -317,13 +218,9 @@ func recTellPending(t, of *recThread) {
 }
 
 // recHasPending reports whether a goroutine has put off what has to be written.
-//
-//go:nosplit
 func recHasPending(t *recThread) bool { return t.pending != 0 || t.sharedWrites.n|t.sharedReads.n != 0 }
 
 // recFinish writes what all goroutines have put off, since the program ends.
-//
-//go:nosplit
 func recFinish() {
 	t := recContext()
 	if t == nil {
@@ -340,104 +237,134 @@ func recFinish() {
 	}
 }
 
-//go:nosplit
-func recNewMomentAt(t *recThread, key uint64, pc uintptr) uint32 {
-	in := recInner{n: 1, key: key}
-	in.pcs[0] = pc
-	return recNewMoment(t, &in)
-}
-
 // recDirect is the stack of a hook in a function that has told its entry.
-//
-//go:nosplit
 func recDirect(t *recThread, in *recInner, pc, depth uintptr) {
 	recDrop(t, uint32(depth))
 	in.n, in.pcs[0] = 1, pc
 	in.key = recMix(recCalls(t), pc) | 1
 }
 
-// recWords notes an access of the words of a range, on the system stack. What has to be written of neighbours stands in one
-// record.
-//
-//go:nosplit
+// recWords notes an access of the words of a range, on the system stack.
 func recWords(t *recThread, args uintptr) {
 	if !recOn {
 		return
 	}
 	a := (*recRange)(unsafe.Pointer(args))
+	var m *recMoment
+	end := a.addr + a.size
+	c := recCellOf(a.addr)
+	for addr := a.addr; addr < end; addr = (addr | 7) + 1 {
+		mask := recMaskOf(addr, end)
+		if !recRepeats(t, c, addr, mask, a.write) {
+			if m == nil {
+				m = recMomentIn(t, a)
+			}
+			if !recExtends(t, &m.run, c, addr&^7, mask, a.write) && recTouch(t, c, addr, mask, m.run.id, a.write) {
+				recObjectOf(t, c, addr)
+				recTellSoon(t, m, addr&^7, mask, c.gen, a.write)
+			}
+		}
+		c = (*recCell)(unsafe.Pointer(uintptr(unsafe.Pointer(c)) + unsafe.Sizeof(*c)))
+	}
+}
+
+// recMomentIn is the moment of an access of a range.
+func recMomentIn(t *recThread, a *recRange) *recMoment {
 	var in recInner
 	if a.fp != 0 {
 		recWalk(t, a.fp, &in)
 	} else {
-		recDirect(t, &in, a.pc, a.depth)
+		recDirect(t, &in, a.pc, getg().stack.hi-a.sp)
 	}
-	var id uint32
-	run := recRun{write: a.write}
-	end := a.addr + a.size
-	for addr := a.addr; addr < end; addr = (addr | 7) + 1 {
-		mask := a.first
-		if mask == 0 {
-			to := (addr | 7) + 1
-			if end < to {
-				to = end
-			}
-			mask = uint8(0xff>>(8-(to-addr))) << (addr & 7)
-		}
-		c := recCellOf(addr)
-		if c == nil {
-			break
-		}
-		if a.write && recRepeatsWrite(t, c, addr, mask) || !a.write && recRepeatsRead(t, c, addr, mask) {
-			continue
-		}
-		if id == 0 {
-			if id = recLastMoment(t, in.key); id == 0 {
-				id = recNewMoment(t, &in)
-			}
-			if id == 0 {
-				return
-			}
-		}
-		if recTouch(t, c, addr, mask, id, a.write) {
-			recObjectOf(t, c, addr)
-			recJoin(t, &run, addr&^7, mask, c.gen, id)
-		}
-	}
-	recTellRun(t, &run)
+	return recMomentOf(t, &in)
 }
 
-// recRun is neighbouring words of which an access has to be written.
-type recRun struct {
-	from, n uintptr
-	id      uint32
-	gen     uint16
-	mask    uint8
-	write   bool
+// recMaskOf are the bytes of a word from an address on up to an end.
+func recMaskOf(addr, end uintptr) uint8 {
+	mask := uint8(0xff) << (addr & 7)
+	if last := addr | 7; end <= last {
+		mask &= 0xff >> (last + 1 - end)
+	}
+	return mask
 }
 
-//go:nosplit
-func recJoin(t *recThread, run *recRun, addr uintptr, mask uint8, gen uint16, id uint32) {
-	if run.n > 0 && run.n < 1<<16-1 && addr == run.from+8*run.n && gen == run.gen && mask == run.mask && id == run.id {
-		run.n++
-		return
+// recExtendsOwn notes an access of a word that nobody else uses, if that leaves nothing to be written.
+func recExtendsOwn(t *recThread, c *recCell, mask uint8, id uint32, write bool) (noted bool) {
+	o := c.owner
+	if o != t.me && o != 0 || !atomic.Cas(&c.owner, o, recLocked) {
+		return false
+	}
+	if write {
+		noted = recFollows(&c.w, &c.wmask, id, mask)
+	} else {
+		noted = recFollows(&c.r, &c.rmask, id, mask)
+	}
+	if noted {
+		o = t.me
+	}
+	c.owner = o
+	return noted
+}
+
+// recExtends notes an access of a word, if several goroutines use that, its object is told, and a run goes on with it.
+func recExtends(t *recThread, run *recRun, c *recCell, word uintptr, mask uint8, write bool) bool {
+	if c.owner>>30 != recShared>>30 || c.r&^recTags != t.told || c.gen != run.gen || !recGoesOn(run, word, mask) {
+		return false
+	}
+	recTouchShared(t, c, mask, run.id, write)
+	return true
+}
+
+// recGoesOn adds an access to a run, if it is about more of its last word, or about the next one.
+func recGoesOn(run *recRun, word uintptr, mask uint8) bool {
+	if word == run.at {
+		run.last |= mask
+		return true
+	}
+	if word != run.at+run.step || run.n > 1 && run.last != run.mask || run.n == recLongest {
+		return false
+	}
+	run.at, run.mask, run.last = word, run.last, mask
+	run.n++
+	return true
+}
+
+// recJoin adds an access to a run, or writes that, and begins another one.
+func recJoin(t *recThread, run *recRun, word uintptr, mask uint8, gen uint16, id uint32) {
+	if run.n != 0 && gen == run.gen && id == run.id {
+		if run.n == 1 && word == run.at-8 {
+			run.step = ^uintptr(7) // -8
+		}
+		if recGoesOn(run, word, mask) {
+			return
+		}
 	}
 	recTellRun(t, run)
-	run.from, run.n, run.gen, run.mask, run.id = addr, 1, gen, mask, id
+	run.at, run.step, run.n, run.id, run.gen, run.last = word, 8, 1, id, gen, mask
 }
 
-//go:nosplit
+// recTellRun writes a run, if there is one.
 func recTellRun(t *recThread, run *recRun) {
-	if run.n == 0 {
+	n, at := uintptr(run.n), run.at
+	if n == 0 {
 		return
 	}
-	n := run.n
-	run.n = 0
-	recTell(t, run.from, n, run.mask, run.gen, run.id, run.write)
+	run.n, run.at = 0, 0
+	if n > 1 && run.last != run.mask {
+		recTell(t, at, 1, run.last, run.gen, run.id, run.write)
+		n, at = n-1, at-run.step
+	}
+	mask := run.mask
+	if n == 1 {
+		mask = run.last
+	}
+	if run.step == 8 {
+		at -= 8 * (n - 1)
+	}
+	recTell(t, at, n, mask, run.gen, run.id, run.write)
 }
 
 // recTell writes an access.
-//
-//go:nosplit
 func recTell(t *recThread, addr, n uintptr, mask uint8, gen uint16, id uint32, write bool) {
 	if !recTellMoment(t, id) {
 		return
@@ -446,30 +373,29 @@ func recTell(t *recThread, addr, n uintptr, mask uint8, gen uint16, id uint32, w
 	if at == 0 {
 		return
 	}
-	op := uint64(3)
+	op := logRead
 	if write {
-		op = 4
+		op = logWrite
 	}
 	recWord(at, 8, uint64(id)|uint64(gen)<<32|uint64(n)<<48)
-	recWord(at, 0, op|uint64(mask)<<8|uint64(addr>>3)<<16)
+	recWord(at, 0, uint64(op)|uint64(mask)<<8|uint64(addr>>3)<<16)
 }
 
 // recObjectOf tells the heap object that a word is in, which several goroutines use, unless this segment has it.
-//
-//go:nosplit
 func recObjectOf(t *recThread, c *recCell, addr uintptr) {
-	segment := recHead().segment
-	told := (segment%3 + 1) << 30
-	if c.r&^recTags == told || addr-recHeapStart >= recHeapEnd-recHeapStart {
+	if c.r&^recTags == t.told {
 		return
 	}
-	c.r = c.r&recTags | told
+	c.r = c.r&recTags | t.told
+	if !recIsHeap(addr) {
+		return
+	}
 	base, span, _ := findObject(addr, 0, 0)
 	if base == 0 {
 		return
 	}
-	typ := (*uint32)(unsafe.Pointer(recTypes + base>>4<<2))
-	now := (segment%15 + 1) << recSegmentShift
+	typ := recTypeAt(base)
+	now := (t.segment%15 + 1) << recSegmentShift
 	of := *typ & (1<<recSegmentShift - 1)
 	if *typ == of|now {
 		return
@@ -480,113 +406,112 @@ func recObjectOf(t *recThread, c *recCell, addr uintptr) {
 		return
 	}
 	pad := uintptr(of >> recPadShift)
-	if span.elemsize != 16 && span.elemsize <= 512 {
-		pad = 0 // within 16 bytes begins what is smaller and has no pointers, and what has a header
-	}
 	recWord(at, 8, uint64(span.elemsize-pad))
 	recWord(at, 16, uint64(of&recTypeOf)<<3)
-	recWord(at, 24, atomic.Load64(&recHead().seq))
-	recWord(at, 0, 5|uint64(base+pad)<<16)
+	recWord(at, 24, atomic.Load64(&recHead().Seq))
+	recWord(at, 0, uint64(logObject)|uint64(base+pad)<<16)
 }
 
 // recTouch notes an access in the cell of a word, and reports whether it has to be written.
-//
-//go:nosplit
 func recTouch(t *recThread, c *recCell, addr uintptr, mask uint8, id uint32, write bool) bool {
+	switch o := recTake(c); {
+	case o == 0 || o == t.me || o == t.me|recAgain && mask == c.wmask:
+		recOwn(t, c, addr&^7, mask, id, write)
+		c.owner = o | t.me // lets go: nothing that comes before a store comes after it on this processor
+		return false
+	case o&recShared == 0:
+		recShare(t, c, addr&^7)
+	case o == recShared && mask == c.wmask && recIsMine(t, c) && atomic.Cas(&c.owner, o, recLocked):
+		c.r, c.rmask = 0, 0
+		recOwn(t, c, addr&^7, mask, id, write)
+		c.owner = t.me | recAgain
+		return false
+	}
+	if !write {
+		recRemember(t, addr, c.w, id, mask, false)
+	}
+	recTouchShared(t, c, mask, id, write)
+	return true
+}
+
+// recIsMine reports whether the last access of a word that several goroutines use was a write of this one's. That was written, so
+// all that others did before is compared with it: what the goroutine does next needn't be, up to where another one comes.
+func recIsMine(t *recThread, c *recCell) bool {
+	if c.w == 0 || c.rmask != 0 {
+		return false
+	}
+	m := recMomentAt(c.w)
+	return *(*uint32)(unsafe.Pointer(m + 4)) == c.w && uint32(*(*uint64)(unsafe.Pointer(m + 8))>>40) == t.me-1
+}
+
+// recTake locks a cell that isn't shared. It answers its owner.
+func recTake(c *recCell) (owner uint32) {
 	for turns := 0; ; turns++ {
 		o := atomic.Load(&c.owner)
 		if o == recLocked {
 			recSpin(turns)
-			continue
+		} else if o&recShared != 0 || atomic.Cas(&c.owner, o, recLocked) {
+			return o
 		}
-		if o&recShared != 0 {
-			break
-		}
-		if !atomic.Cas(&c.owner, o, recLocked) {
-			continue
-		}
-		if o == 0 {
-			c.w, c.r, c.wmask, c.rmask = 0, 0, 0, 0
-		} else if o != t.me {
-			recShare(t, c, addr&^7, recShared)
-			break
-		}
-		recOwn(t, c, addr&^7, mask, id, write)
-		atomic.Store(&c.owner, t.me)
-		return false
 	}
+}
+
+// recTouchShared notes an access in the cell of a word that several goroutines use.
+func recTouchShared(t *recThread, c *recCell, mask uint8, id uint32, write bool) {
 	if write {
-		if c.w == id && recIsRun(c.wmask|mask) {
-			mask |= c.wmask
+		if c.w == id {
+			mask |= c.wmask // of parts that one place writes one after the other
 		}
 		c.w, c.wmask = id, mask
 		c.r, c.rmask, c.owner = c.r&^recTags, 0, recShared
-		return true
+		return
 	}
-	recRemember(t, addr, c.w, id, mask, false)
-	x, y := c.owner, c.r
-	if mask&^c.rmask != 0 {
-		if x&recTags == t.tag && y&recTags == 0 && recIsRun(c.rmask|mask) { // nobody else has read it
-			mask |= c.rmask
+	x, y, tag := c.owner, c.r, t.tags&recTag
+	if mask != c.rmask {
+		mask |= recHasRead(t, c)
+		switch mask {
+		case c.rmask:
+		case c.rmask & -c.rmask:
+			tag-- // even: it has read the first byte alone
+		default:
+			c.rmask = mask // the others have read other bytes: they are forgotten
+			x, y = recShared, y&^recTags
 		}
-		x, y = recShared, y&^recTags
-		c.rmask = mask
 	}
 	c.r = y&^recTags | (y<<recTagBits|x>>recTagBits&recTag)&recTags
-	c.owner = recShared | (x<<recTagBits|t.tag)&recTags
-	return true
-}
-
-//go:nosplit
-func recRemember(t *recThread, addr uintptr, w, id uint32, mask uint8, write bool) {
-	e := recToldOf(t, addr)
-	e.addr, e.w, e.id, e.mask, e.write = addr, w, id, mask, write
+	c.owner = recShared | (x<<recTagBits|tag)&recTags
 }
 
 // recOwn notes an access of the only goroutine that uses a word. What an earlier one was about and this one isn't is written.
-//
-//go:nosplit
 func recOwn(t *recThread, c *recCell, addr uintptr, mask uint8, id uint32, write bool) {
-	if write {
-		if c.w == id && recIsRun(c.wmask|mask) {
-			mask |= c.wmask // of bytes that one place writes one after the other
-		} else if c.wmask&^mask != 0 {
-			recTell(t, addr, 1, c.wmask, c.gen, c.w, true)
-			recRemember(t, addr+recFirst(c.wmask), 0, c.w, c.wmask, true)
-		}
+	switch {
+	case write && !recFollows(&c.w, &c.wmask, id, mask):
+		t.sharedWrites.write = true
+		recJoin(t, &t.sharedWrites, addr, c.wmask, c.gen, c.w)
+		recRemember(t, addr, 0, c.w, c.wmask, true)
 		c.w, c.wmask = id, mask
-		return
+	case !write && !recFollows(&c.r, &c.rmask, id, mask):
+		recJoin(t, &t.sharedReads, addr, c.rmask, c.gen, c.r)
+		recRemember(t, addr, 0, c.r, c.rmask, false)
+		c.r, c.rmask = id, mask
 	}
-	if c.r == id && recIsRun(c.rmask|mask) {
-		mask |= c.rmask
-	} else if c.rmask&^mask != 0 {
-		recTell(t, addr, 1, c.rmask, c.gen, c.r, false)
-		recRemember(t, addr+recFirst(c.rmask), 0, c.r, c.rmask, false)
-	}
-	c.r, c.rmask = id, mask
 }
 
-// recIsRun reports whether the bytes of a mask are neighbours.
-//
-//go:nosplit
-func recIsRun(mask uint8) bool { return (mask+mask&-mask)&mask == 0 }
-
-// recFirst is the first byte of a mask.
-//
-//go:nosplit
-func recFirst(mask uint8) uintptr {
-	n := uintptr(0)
-	for mask&1 == 0 {
-		mask >>= 1
-		n++
+// recFollows has an access come in the place of a word's last one of its kind, unless that was about other bytes too, at another
+// moment.
+func recFollows(last *uint32, bytes *uint8, id uint32, mask uint8) bool {
+	if *last == id {
+		mask |= *bytes
+	} else if *bytes&^mask != 0 {
+		return false
 	}
-	return n
+	*last, *bytes = id, mask
+	return true
 }
 
-// recShare writes what the only goroutine that used a word did with it, since another one comes. The cell is locked.
-//
-//go:nosplit
-func recShare(t *recThread, c *recCell, addr uintptr, owner uint32) {
+// recShare writes what the only goroutine that used a word did with it, since another one comes. The cell is locked, and is
+// shared from now on.
+func recShare(t *recThread, c *recCell, addr uintptr) {
 	if c.rmask != 0 {
 		recJoin(t, &t.sharedReads, addr, c.rmask, c.gen, c.r)
 	}
@@ -595,5 +520,5 @@ func recShare(t *recThread, c *recCell, addr uintptr, owner uint32) {
 		recJoin(t, &t.sharedWrites, addr, c.wmask, c.gen, c.w)
 	}
 	c.w, c.r, c.wmask, c.rmask = 0, 0, 0, 0
-	atomic.Store(&c.owner, owner)
+	c.owner = recShared
 }

@@ -32,28 +32,20 @@ const (
 )
 
 // recVariable is the value of an environment variable, without the length, or nil.
-//
-//go:nosplit
 func recVariable(name string) *byte {
 	for i := argc + 1; ; i++ {
-		at := uintptr(unsafe.Pointer(argv)) + uintptr(i)*8
-		p := *(**byte)(unsafe.Pointer(at))
+		p := argv_index(argv, i)
 		if p == nil {
 			return nil
 		}
-		n := 0
-		for n < len(name) && *(*byte)(add(unsafe.Pointer(p), uintptr(n))) == name[n] {
-			n++
-		}
-		if n == len(name) && *(*byte)(add(unsafe.Pointer(p), uintptr(n))) == '=' {
+		n := len(name)
+		if s := gostringnocopy(p); len(s) > n && s[:n] == name && s[n] == '=' {
 			return (*byte)(add(unsafe.Pointer(p), uintptr(n)+1))
 		}
 	}
 }
 
 // rec_init is the first call of all. Without a log there are no contexts, so that nothing is told.
-//
-//go:nosplit
 func rec_init(gctx, pctx, _, _ uintptr) {
 	*(*uintptr)(unsafe.Pointer(pctx)) = 1
 	if argv == nil || argc == 0 {
@@ -64,11 +56,14 @@ func rec_init(gctx, pctx, _, _ uintptr) {
 		return
 	}
 	h := recHead()
-	h.text, h.types, h.etypes = uint64(firstmoduledata.text), uint64(firstmoduledata.types), uint64(firstmoduledata.etypes)
+	h.Text, h.Types = uint64(firstmoduledata.text), uint64(firstmoduledata.types)
 	rec.threads = recMap(0, recMostThreads*recThreadSize, -1)
-	rec.moments = recMap(0, recMoments*recUnit, -1)
+	rec.moments = recMap(0, recMoments*logUnitSize, -1)
+	rec.keys = recMap(0, 8*recSites, -1)
 	recLists.rest = recMap(0, recMostRest*unsafe.Sizeof(recRest{}), -1)
-	if rec.threads == 0 || rec.moments == 0 || recLists.rest == 0 {
+	cells := recMap(2*recHeap, 2<<recHeapBits, -1)
+	types := recMap(recHeap/4, 1<<recHeapBits/2, -1)
+	if rec.threads == 0 || rec.moments == 0 || rec.keys == 0 || recLists.rest == 0 || cells == 0 || types == 0 {
 		rec.log = 0
 		return
 	}
@@ -82,8 +77,6 @@ func rec_init(gctx, pctx, _, _ uintptr) {
 var recOwnName [4096]byte
 
 // recOpenLog maps the log of that name, or, where another process writes that, one with this process's number behind it.
-//
-//go:nosplit
 func recOpenLog(name *byte) bool {
 	pid := uint32(recSyscall(recSysPid, 0, 0, 0, 0, 0, 0))
 	taken, ok := recTryLog(name, pid, recOpenFlags)
@@ -98,15 +91,11 @@ func recOpenLog(name *byte) bool {
 		}
 	}
 	own[n] = '.'
-	var digits [10]byte
-	d := 0
-	for rest := pid; d == 0 || rest > 0; rest /= 10 {
-		digits[d] = byte('0' + rest%10)
-		d++
-	}
-	for ; d > 0; d-- {
-		n++
-		own[n] = digits[d-1]
+	for unit := uint32(1000000000); unit > 0; unit /= 10 {
+		if pid >= unit {
+			n++
+			own[n] = byte('0' + pid/unit%10)
+		}
 	}
 	own[n+1] = 0
 	_, ok = recTryLog(&own[0], pid, recOpenFlags|recExclusive)
@@ -114,70 +103,56 @@ func recOpenLog(name *byte) bool {
 }
 
 // recTryLog maps a log; taken says that another process writes it.
-//
-//go:nosplit
-func recTryLog(name *byte, pid uint32, flags uintptr) (taken, ok bool) {
+func recTryLog(name *byte, pid uint32, flags uintptr) (taken, opened bool) {
 	fd := recSyscall(recSysOpen, uintptr(unsafe.Pointer(name)), flags, 0644, 0, 0, 0)
 	if int(fd) < 0 {
 		return false, false
 	}
-	chunks := uint32(recAlone)
+	chunks, ok := uint32(logDefaultChunks), false
 	size := recSyscall(recSysSeek, fd, 0, 2, 0, 0, 0)
-	if size >= recPage {
-		if p := recMap(0, recPage, int32(fd)); p != 0 {
-			h := (*recHeader)(unsafe.Pointer(p))
-			chunks = h.chunks
-			taken = h.magic == recMagic && !atomic.Cas(&h.taken, 0, pid)
-			ok = h.magic == recMagic && chunks > 0 && size >= recLogSize(chunks)
+	if size >= logPageSize {
+		if p := recMap(0, logPageSize, int32(fd)); p != 0 {
+			h := (*logHeader)(unsafe.Pointer(p))
+			chunks = h.Chunks
+			ok = h.Magic == logMagic && chunks > 0
+			taken = ok && !atomic.Cas(&h.Taken, 0, pid)
 		}
-		if !ok || taken {
-			recSyscall(recSysClose, fd, 0, 0, 0, 0, 0)
-			return taken, false
-		}
-	} else if int(recSyscall(recSysTruncate, fd, recLogSize(chunks), 0, 0, 0, 0)) < 0 {
-		recSyscall(recSysClose, fd, 0, 0, 0, 0, 0)
-		return false, false
 	}
-	rec.log = recMap(0, recLogSize(chunks), int32(fd))
+	at := logRegionsOf(int(chunks))
+	end := uintptr(at.end)
+	if size < logPageSize {
+		ok = int(recSyscall(recSysTruncate, fd, end, 0, 0, 0, 0)) >= 0
+		size = end
+	}
+	if ok && !taken && size >= end {
+		rec.log = recMap(0, end, int32(fd))
+	}
 	recSyscall(recSysClose, fd, 0, 0, 0, 0, 0)
 	if rec.log == 0 {
-		return false, false
+		return taken, false
 	}
 	h := recHead()
-	h.magic, h.chunks, h.taken, h.version = recMagic, chunks, pid, 1
-	rings := alignUp(4*uintptr(chunks), recPage)
-	rec.chunks, rec.reads = chunks, h.reader != 0
-	rec.announce = rec.log + recPage
-	rec.free = rec.announce + rings
-	rec.keys = rec.free + rings
-	rec.words = rec.keys + 8*recSites
-	rec.units = rec.words + 8*recStackWords
+	h.Magic, h.Chunks, h.Taken = logMagic, chunks, pid
+	rec.chunks, rec.reads = chunks, h.Reader != 0
+	rec.announce = rec.log + uintptr(at.announce)
+	rec.free = rec.log + uintptr(at.free)
+	rec.sites = rec.log + uintptr(at.sites)
+	rec.words = rec.log + uintptr(at.words)
+	rec.units = rec.log + uintptr(at.chunks)
 	return false, true
 }
 
-//go:nosplit
-func recLogSize(chunks uint32) uintptr {
-	return recPage + 2*alignUp(4*uintptr(chunks), recPage) + 8*recSites + 8*recStackWords + uintptr(chunks)*recChunkSize
-}
-
 // recPut is room for a record of so many units, 0 where there is none any more.
-//
-//go:nosplit
 func recPut(t *recThread, units uintptr) uintptr {
-	at := t.at
-	if at+units*recUnit > t.to {
-		if !recMore(t, units) {
-			return 0
-		}
-		at = t.at
+	if t.at+units*logUnitSize > t.to && !recMore(t, units) {
+		return 0
 	}
-	t.at = at + units*recUnit
+	at := t.at
+	t.at = at + units*logUnitSize
 	return at
 }
 
 // recMore gives a goroutine another chunk.
-//
-//go:nosplit
 func recMore(t *recThread, units uintptr) bool {
 	recLeave(t)
 	at, to := recRoom(units + 1)
@@ -186,67 +161,62 @@ func recMore(t *recThread, units uintptr) bool {
 	}
 	t.stint++
 	recWord(at, 8, t.stint)
-	recWord(at, 0, 1|uint64(t.me-1)<<8)
-	t.at, t.to = at+recUnit, to
+	recWord(at, 0, uint64(logSwitch)|uint64(t.me-1)<<8)
+	t.at, t.to = at+logUnitSize, to
 	return true
 }
 
 // recLeave ends what is left of a goroutine's chunk.
-//
-//go:nosplit
 func recLeave(t *recThread) {
 	if t.at < t.to {
-		recWord(t.at, 0, 255)
+		recWord(t.at, 0, uint64(logPad))
 	}
 	t.at, t.to = 0, 0
 }
 
-//go:nosplit
 func recWord(at, offset uintptr, value uint64) { *(*uint64)(unsafe.Pointer(at + offset)) = value }
 
 // recRoom hands out a chunk, or what an ended goroutine left of one.
-//
-//go:nosplit
 func recRoom(units uintptr) (at, to uintptr) {
 	h := recHead()
 	for recOn {
-		if atomic.Load(&h.stop) != 0 {
-			recStop(recFullChunks)
+		if atomic.Load(&h.Stop) != 0 {
+			recStop(logFullChunks)
 			break
 		}
 		recLock(&recLists.lock)
 		if n := recLists.rests; n > 0 {
 			recLists.rests = n - 1
-			r := (*recRest)(unsafe.Pointer(recLists.rest + uintptr(n-1)*unsafe.Sizeof(recRest{})))
-			if at, to = r.at, r.to; at+units*recUnit <= to {
+			r := recRestAt(n - 1)
+			if at, to = r.at, r.to; at+units*logUnitSize <= to {
 				recUnlock(&recLists.lock)
 				return at, to
 			}
-			recWord(at, 0, 255)
+			recWord(at, 0, uint64(logPad))
 			recUnlock(&recLists.lock)
 			continue
 		}
 		slot, ok := recSlot(h)
 		if ok && !rec.reads && slot%recAhead == 0 && !recHasRoom(slot) {
 			recUnlock(&recLists.lock)
-			recStop(recFullDisk)
+			recStop(logFullDisk)
 			break
 		}
 		if ok {
-			n := h.announced
+			n := h.Announced
 			*(*uint32)(unsafe.Pointer(rec.announce + uintptr(n%rec.chunks)*4)) = slot + 1
-			atomic.Store(&h.announced, n+1)
-			ahead := n - atomic.Load(&h.freed) - recLists.living
+			atomic.Store(&h.Announced, n+1)
+			ahead := n - atomic.Load(&h.Freed) - recLists.living
 			recUnlock(&recLists.lock)
 			if rec.reads && int32(ahead) > recPaced {
 				usleep((ahead - recPaced) / 64) // rather slower than standing still for long
 			}
-			at = rec.units + uintptr(slot)*recChunkSize
-			return at, at + recChunkSize
+			at = rec.units + uintptr(slot)*logChunkSize
+			return at, at + logChunkSize
 		}
 		recUnlock(&recLists.lock)
 		if !rec.reads {
-			recStop(recFullChunks)
+			recStop(logFullChunks)
 			break
 		}
 		usleep(200)
@@ -256,46 +226,39 @@ func recRoom(units uintptr) (at, to uintptr) {
 
 // recHasRoom finds room on the disk for the chunks from one on: a program that writes to a full disk would be killed. Where the
 // system doesn't know this call, there may be room.
-//
-//go:nosplit
 func recHasRoom(chunk uint32) bool {
 	n := rec.chunks - chunk
 	if n > recAhead {
 		n = recAhead
 	}
-	at := alignDown(rec.units+uintptr(chunk)*recChunkSize, recPage)
-	failed := int(recSyscall(recSysAdvise, at, uintptr(n)*recChunkSize, recPopulate, 0, 0, 0))
+	at := alignDown(rec.units+uintptr(chunk)*logChunkSize, logPageSize)
+	failed := int(recSyscall(recSysAdvise, at, uintptr(n)*logChunkSize, recPopulate, 0, 0, 0))
 	return failed == 0 || failed == -recUnknown
 }
 
 // recSlot is where the next chunk lies: where one lay that was given back, or in new memory. If somebody reads along, the program
 // gets only so far ahead of him; each goroutine may hold a chunk besides.
-//
-//go:nosplit
-func recSlot(h *recHeader) (slot uint32, ok bool) {
+func recSlot(h *logHeader) (slot uint32, ok bool) {
 	l := &recLists
-	freed := atomic.Load(&h.freed)
+	freed := atomic.Load(&h.Freed)
 	if freed != l.reused {
 		slot = *(*uint32)(unsafe.Pointer(rec.free + uintptr(l.reused%rec.chunks)*4))
 		l.reused++
 		return slot, true
 	}
-	if l.fresh == rec.chunks || rec.reads && h.announced-freed >= recUnread+l.living {
+	if l.fresh == rec.chunks || rec.reads && h.Announced-freed >= recUnread+l.living {
 		return 0, false
 	}
 	l.fresh++
 	return l.fresh - 1, true
 }
 
-//go:nosplit
 func recMix(h uint64, pc uintptr) uint64 {
 	h = (h ^ uint64(pc)) * 0x9E3779B97F4A7C15
 	return h ^ h>>29
 }
 
 // recCalls is the hash of the calls on a goroutine's shadow stack.
-//
-//go:nosplit
 func recCalls(t *recThread) uint64 {
 	f := (*recFrame)(unsafe.Pointer(t.top))
 	if f.known != 0 {
@@ -307,7 +270,7 @@ func recCalls(t *recThread) uint64 {
 	}
 	h := (*recFrame)(unsafe.Pointer(at)).hash
 	deep, last := uintptr(recDeep), uintptr(recLast)
-	if recHead().words > recStackWords/4 {
+	if recHead().Words > logStackWords/4 {
 		deep, last = recLastIfMany, recLastIfMany // there are too many stacks to tell them all apart
 	}
 	for at != t.top {
@@ -324,8 +287,6 @@ func recCalls(t *recThread) uint64 {
 }
 
 // recLastCalls is the hash of the innermost calls alone: deep recursion would have a stack of its own at each depth.
-//
-//go:nosplit
 func recLastCalls(at, n uintptr) (h uint64) {
 	for i := n; i > 0; i-- {
 		h = recMix(h, (*recFrame)(unsafe.Pointer(at-(i-1)*recFrameSize)).pc)
@@ -334,8 +295,6 @@ func recLastCalls(at, n uintptr) (h uint64) {
 }
 
 // recDrop drops the calls that a panic has ended: those below a depth.
-//
-//go:nosplit
 func recDrop(t *recThread, depth uint32) {
 	for (*recFrame)(unsafe.Pointer(t.top)).depth > depth {
 		t.top -= recFrameSize
@@ -351,8 +310,6 @@ type recInner struct {
 
 // recWalk finds by frame pointers the calls between a hook and the innermost function that told its entry. fp is the
 // frame pointer of the hook.
-//
-//go:nosplit
 func recWalk(t *recThread, fp uintptr, in *recInner) {
 	high := getg().stack.hi
 	in.n = 0
@@ -378,8 +335,6 @@ func recWalk(t *recThread, fp uintptr, in *recInner) {
 }
 
 // recHere is the site of a hook that stands in a function that doesn't tell its entry.
-//
-//go:nosplit
 func recHere(t *recThread, fp uintptr) uint32 {
 	var in recInner
 	recWalk(t, fp, &in)
@@ -391,8 +346,6 @@ func recHere(t *recThread, fp uintptr) uint32 {
 }
 
 // recSite numbers a stack.
-//
-//go:nosplit
 func recSite(t *recThread, in *recInner) uint32 {
 	if i := recProbe(t, in, uint32(in.key>>40)&(recDense-1), recDense-1); i != 0 {
 		return i
@@ -401,8 +354,6 @@ func recSite(t *recThread, in *recInner) uint32 {
 }
 
 // recProbe looks for a stack's number from one on. 0 is none.
-//
-//go:nosplit
 func recProbe(t *recThread, in *recInner, i, last uint32) uint32 {
 	for probes := 0; probes < 32; probes++ {
 		slot := (*uint64)(unsafe.Pointer(rec.keys + uintptr(i)*8))
@@ -425,80 +376,67 @@ func recProbe(t *recThread, in *recInner, i, last uint32) uint32 {
 }
 
 // recTellStack writes the calls of a site.
-//
-//go:nosplit
 func recTellStack(t *recThread, in *recInner, site uint32) {
 	outer := int((t.top - t.base) / recFrameSize)
 	if outer > recDeepest {
 		outer = recDeepest
 	}
 	n := uint64(in.n + outer)
-	h := recHead()
-	at := atomic.Xadd64(&h.words, int64(n)+2) - n - 2
-	if at+n+2 > recStackWords {
+	at := atomic.Xadd64(&recHead().Words, int64(n)+1) - n - 1
+	if at+n+1 > logStackWords {
 		return
 	}
 	w := rec.words + uintptr(at)*8
-	recWord(w, 8, n)
+	recWord(w, 0, n)
 	for i := 0; i < in.n; i++ {
-		recWord(w, 16+8*uintptr(i), uint64(in.pcs[i]))
+		recWord(w, 8+8*uintptr(i), uint64(in.pcs[i]))
 	}
 	for i := 0; i < outer; i++ {
 		f := (*recFrame)(unsafe.Pointer(t.top - uintptr(i)*recFrameSize))
-		recWord(w, 16+8*uintptr(in.n+i), uint64(f.pc))
+		recWord(w, 8+8*uintptr(in.n+i), uint64(f.pc))
 	}
-	recWord(w, 0, uint64(site))
+	atomic.Store((*uint32)(unsafe.Pointer(rec.sites+uintptr(site)*4)), uint32(at)+1)
 }
 
-// recLastMoment is the moment of an access at a stack that was made since the goroutine's last step, 0 for none.
-//
-//go:nosplit
-func recLastMoment(t *recThread, key uint64) uint32 {
-	if s := recHead().segment; s != t.segment {
-		t.segment = s
-		t.stamp++
-	}
-	if e := &t.moments[key>>(64-recMomentBits)]; e.key == key && e.stamp == t.stamp {
-		return e.id
-	}
-	return 0
-}
-
-// recNewMoment is a new moment, or 0 where nothing is recorded any more.
-//
-//go:nosplit
-func recNewMoment(t *recThread, in *recInner) uint32 {
+// recMomentOf is the moment of an access at a stack: the last one there, if the goroutine has made no step since, else a new
+// one.
+func recMomentOf(t *recThread, in *recInner) *recMoment {
 	h := recHead()
-	e := &t.moments[in.key>>(64-recMomentBits)]
-	site := e.site
-	if e.key != in.key {
-		site = recSite(t, in)
+	if h.Segment != t.segment {
+		recBegin(t, h.Segment)
+	}
+	m := &t.moments[in.key>>(64-recMomentBits)]
+	if m.key == in.key && m.stamp == t.stamp {
+		return m
+	}
+	recTellRun(t, &m.run)
+	if m.key != in.key {
+		m.key, m.site = in.key, recSite(t, in)
 	}
 	if t.moment == t.momentsEnd {
-		first := atomic.Xadd(&h.moments, recBlock) // after 2^32 they begin anew: those in use are far younger
+		first := atomic.Xadd(&h.Moments, recBlock) // after 2^32 they begin anew: those in use are far younger
 		t.moment, t.momentsEnd, t.epoch = first, first+recBlock, first
 	}
 	id := t.moment
 	t.moment++
 	at := recMomentAt(id)
-	recWord(at, 8, atomic.Load64(&h.seq)|uint64(t.me-1)<<40)
-	recWord(at, 0, 2|uint64(site)<<8|uint64(id)<<32)
-	if e.n != 0 {
-		recTellEntry(t, e)
-	}
-	e.key, e.stamp, e.id, e.site = in.key, t.stamp, id, site
-	return id
+	recWord(at, 8, atomic.Load64(&h.Seq)|uint64(t.me-1)<<40)
+	recWord(at, 0, uint64(logMoment)|uint64(m.site)<<8|uint64(id)<<32)
+	m.stamp, m.run.id = t.stamp, id
+	return m
+}
+
+// recBegin says that a goroutine comes to a segment.
+func recBegin(t *recThread, segment uint32) {
+	t.segment, t.told = segment, (segment%3+1)<<30
+	t.stamp++
 }
 
 // recMomentAt is where a moment stands until it is told: its record, as it will be in the log. One that was told has no op.
-//
-//go:nosplit
-func recMomentAt(id uint32) uintptr { return rec.moments + uintptr(id%recMoments)*recUnit }
+func recMomentAt(id uint32) uintptr { return rec.moments + uintptr(id%recMoments)*logUnitSize }
 
 // recTellMoment writes the record of a moment, if the log doesn't have it. It reports false for one that is so old that
 // nobody knows it any more.
-//
-//go:nosplit
 func recTellMoment(t *recThread, id uint32) bool {
 	from := recMomentAt(id)
 	first := *(*uint64)(unsafe.Pointer(from))

@@ -11,93 +11,69 @@ import (
 	"unsafe"
 )
 
-// The kinds of steps.
-const (
-	recGo = 16 + iota
-	recExit
-	recAcquire
-	recRelease
-	recReleaseMerge
-	recReleaseAcquire
-	recFinalizer
-)
-
-const (
-	recAtomicLoad = 24 + iota
-	recAtomicStore
-	recAtomicRMW
-	recAtomicFail
-)
-
-const (
-	recSend = 32 + iota
-	recRecv
-	recMeetOp
-	recClose
-	recRecvClosed
-	recDefaultSend
-	recDefaultRecv
-	recDefaultOp
-	recCaseSend
-	recCaseRecv
-)
-
-// The kinds of RecOp that don't release.
-const (
-	recLockOp    = 48
-	recRLockOp   = 50
-	recTryLock   = 52
-	recTryRFail  = 58
-	recWLock     = 55
-	recTryWLock  = 57
-	recOnceDone  = 61
-	recEdgeOp    = 64
-	recLabelOp   = 6
-	recWithValue = 1 // in a record's last word: the element counts
-)
-
 // recStepOf is a step before it is written.
 type recStepOf struct {
-	op, aux     uint64
+	op          logOp
+	aux         uint8
 	addr        uintptr
+	fp          uintptr // the hook's frame pointer, by which the site is found; 0: site has it
 	site, other uint32
 	value       uint64
-	gen         uint16
-	long        bool // it has a third unit
-	elem, last  uint64
+	elem, last  uint64     // of a step with a third unit
+	with        *recThread // whose step it is, too
 }
 
-// recStep writes a step of a goroutine, and answers its number.
-//
-//go:nosplit
-func recStep(t *recThread, s *recStepOf, releases bool) uint64 {
+// recReleasing has the steps after which what the goroutine repeats is told anew. Edge is another one.
+const recReleasing uint64 = 1<<logGo | 1<<logExit | 1<<logRelease | 1<<logReleaseMerge | 1<<logReleaseAcquire |
+	1<<logAtomicStore | 1<<logAtomicRMW | 1<<logSend | 1<<logReceive | 1<<logMeet | 1<<logClose |
+	1<<logUnlock | 1<<logRUnlock | 1<<logWUnlock | 1<<logOnceBegin | 1<<logOnceEnd
+
+// recDo writes a step of the running goroutine.
+func recDo(t *recThread, s *recStepOf) {
+	recCall(abi.FuncPCABIInternal(recDoHere), t, uintptr(unsafe.Pointer(s)), 0, 0, 0)
+}
+
+func recDoHere(t *recThread, step uintptr) {
+	s := (*recStepOf)(unsafe.Pointer(step))
+	if s.fp != 0 {
+		s.site = recHere(t, s.fp)
+	}
+	recStep(t, s)
+	recSwitch(t)
+}
+
+// recStep writes a step into the log of a goroutine, and answers its number.
+func recStep(t *recThread, s *recStepOf) uint64 {
 	if recHasPending(t) {
 		recTellPending(t, t)
 	}
-	units := uintptr(2)
-	if s.long {
+	gen, units := recObject(s.addr), uintptr(2)
+	switch s.op {
+	case logSend, logReceive, logMeet, logEdge:
 		units = 3
 	}
 	at := recPut(t, units)
 	if at == 0 {
 		return 0
 	}
-	seq := atomic.Xadd64(&recHead().seq, 1)
-	recWord(at, 8, seq|uint64(s.gen)<<48)
+	seq := atomic.Xadd64(&recHead().Seq, 1)
+	recWord(at, 8, seq|uint64(gen)<<48)
 	recWord(at, 16, uint64(s.site)|uint64(s.other)<<24)
 	recWord(at, 24, s.value)
-	if s.long {
+	if units == 3 {
 		recWord(at, 32, s.elem)
 		recWord(at, 40, s.last)
 	}
-	recWord(at, 0, s.op|s.aux<<8|uint64(s.addr)<<16)
+	recWord(at, 0, uint64(s.op)|uint64(s.aux)<<8|uint64(s.addr)<<16)
+	releases := s.op == logEdge || recReleasing>>s.op&1 != 0
 	recPass(t, releases)
+	if s.with != nil {
+		recPass(s.with, releases)
+	}
 	return seq
 }
 
 // recPass says that a goroutine has made a step: its moments are over, and, if the step releases, so are repetitions.
-//
-//go:nosplit
 func recPass(t *recThread, releases bool) {
 	t.stamp++
 	if releases {
@@ -106,18 +82,19 @@ func recPass(t *recThread, releases bool) {
 	}
 }
 
-// recNewTag gives a goroutine another tag. That another goroutine has the same at the same word is as rare as one in 8,000.
-//
-//go:nosplit
+// recNewTag gives a goroutine another tag, which is odd and not 1. That another goroutine has the same at the same word is as
+// rare as one in 16,000.
 func recNewTag(t *recThread) {
-	t.tag = (t.stamp*0x9E3779B1^t.me*0x85EBCA6B)>>17 | 1
+	tag := (t.stamp*0x9E3779B1^t.me*0x85EBCA6B)>>17 | 1
+	if tag == 1 {
+		tag = 3
+	}
+	t.tags = tag | tag<<recTagBits
 }
 
 // recObject is the generation of what synchronizes at an address. From now on the memory is shared, so that its next use
 // counts as another object.
-//
-//go:nosplit
-func recObject(t *recThread, addr uintptr) uint16 {
+func recObject(addr uintptr) uint16 {
 	c := recCellOf(addr)
 	if c == nil {
 		return 0
@@ -128,32 +105,9 @@ func recObject(t *recThread, addr uintptr) uint16 {
 	return c.gen
 }
 
-// recSimple writes a step about an address by the running goroutine. fp is the hook's frame pointer.
-//
-//go:nosplit
-func recSimple(t *recThread, op uintptr, addr, fp uintptr, releases bool) {
-	how := uintptr(0)
-	if releases {
-		how = 1
-	}
-	recCall(abi.FuncPCABIInternal(recSimpleStep), t, op, addr, fp, how)
-}
-
-//go:nosplit
-func recSimpleStep(t *recThread, op, addr, fp, releases uintptr) {
-	var s recStepOf
-	s.op, s.addr = uint64(op), addr
-	s.site = recHere(t, fp)
-	s.gen = recObject(t, addr)
-	recStep(t, &s, releases != 0)
-	recSwitch(t)
-}
-
 // recSwitch lets another goroutine run now and then, if the log asks for that.
-//
-//go:nosplit
 func recSwitch(t *recThread) {
-	seed := recHead().seed
+	seed := recHead().Seed
 	if seed == 0 {
 		return
 	}
@@ -172,24 +126,13 @@ func recSwitch(t *recThread) {
 }
 
 // RecOp tells of an operation on a lock or a once.
-//
-//go:nosplit
 func RecOp(op uintptr, addr unsafe.Pointer) {
-	t := recContext()
-	if t == nil || !recOn || t.ignore != 0 {
-		return
+	if t := recContext(); t != nil && recOn && t.ignore == 0 {
+		recDo(t, &recStepOf{op: logOp(op), addr: uintptr(addr), fp: recFP()})
 	}
-	releases := true
-	switch op {
-	case recLockOp, recRLockOp, recTryLock, recTryLock + 1, recTryLock + 2, recWLock, recTryWLock, recTryRFail, recOnceDone:
-		releases = false
-	}
-	recSimple(t, op, uintptr(addr), recFP(), releases)
 }
 
 // RecLabel names the running goroutine.
-//
-//go:nosplit
 func RecLabel(name string) {
 	t := recContext()
 	if t == nil || !recOn {
@@ -204,15 +147,14 @@ func RecLabel(name string) {
 		return
 	}
 	for i := uintptr(0); i < n; i++ {
-		*(*byte)(unsafe.Pointer(at + recUnit + i)) = name[i]
+		*(*byte)(unsafe.Pointer(at + logUnitSize + i)) = name[i]
 	}
 	recWord(at, 8, 0)
-	recWord(at, 0, recLabelOp|uint64(n)<<8)
+	recWord(at, 0, uint64(logLabel)|uint64(n)<<8)
 }
 
 // ---- goroutines
 
-//go:nosplit
 func recNewThread() *recThread {
 	recLock(&recLists.lock)
 	at := recLists.freed
@@ -238,24 +180,24 @@ func recNewThread() *recThread {
 	t.at, t.to, t.stint = 0, 0, 0
 	t.ignore, t.waits, t.random, t.pending = 0, 0, 0, 0
 	t.sharedWrites.n, t.sharedReads.n = 0, 0
-	t.stamp++ // of an earlier goroutine nothing counts
+	recBegin(t, recHead().Segment) // of an earlier goroutine nothing counts
 	t.moment, t.momentsEnd, t.epoch = 0, 0, 0
 	for i := range t.accesses {
-		t.accesses[i].addr = 0
+		t.accesses[i].word = 0
 	}
 	for i := range t.moments {
-		t.moments[i].n, t.moments[i].listed = 0, false
+		m := &t.moments[i]
+		m.run.n, m.run.at, m.listed = 0, 0, false
 	}
-	id := atomic.Xadd(&recHead().goroutines, 1) - 1
+	id := atomic.Xadd(&recHead().Goroutines, 1) - 1
 	if id >= 1<<24-2 {
-		recStop(recFullNumbers)
+		recStop(logFullNumbers)
 	}
 	t.me = id + 1
 	recNewTag(t)
 	return t
 }
 
-//go:nosplit
 func rec_go_start(parent, child, pc, _ uintptr) {
 	at := (*uintptr)(unsafe.Pointer(child))
 	*at = 0
@@ -267,35 +209,28 @@ func rec_go_start(parent, child, pc, _ uintptr) {
 	}
 	p, t := (*recThread)(unsafe.Pointer(parent)), recNewThread()
 	if t == nil {
-		recStop(recFullNumbers)
+		recStop(logFullNumbers)
 		return
 	}
 	*at = uintptr(unsafe.Pointer(t))
-	if !recOn {
-		return
+	if recOn {
+		in := recInner{n: 1, key: recMix(recCalls(p), pc) | 1}
+		in.pcs[0] = pc
+		recStep(p, &recStepOf{op: logGo, site: recSite(p, &in), other: t.me - 1})
 	}
-	var in recInner
-	in.n, in.pcs[0] = 1, pc
-	in.key = recMix(recCalls(p), pc) | 1
-	var s recStepOf
-	s.op, s.site, s.other = recGo, recSite(p, &in), t.me-1
-	recStep(p, &s, true)
 }
 
-//go:nosplit
 func rec_go_end(thread, _, _, _ uintptr) {
 	if thread == 0 {
 		return
 	}
 	t := (*recThread)(unsafe.Pointer(thread))
 	if recOn {
-		var s recStepOf
-		s.op = recExit
-		recStep(t, &s, true)
+		recStep(t, &recStepOf{op: logExit})
 	}
 	recLock(&recLists.lock)
-	if n := recLists.rests; t.at != 0 && t.at+8*recUnit <= t.to && n < recMostRest {
-		*(*recRest)(unsafe.Pointer(recLists.rest + uintptr(n)*unsafe.Sizeof(recRest{}))) = recRest{t.at, t.to}
+	if n := recLists.rests; t.at != 0 && t.at+8*logUnitSize <= t.to && n < recMostRest {
+		*recRestAt(n) = recRest{t.at, t.to}
 		recLists.rests = n + 1
 	} else {
 		recLeave(t)
@@ -306,162 +241,116 @@ func rec_go_end(thread, _, _, _ uintptr) {
 	recUnlock(&recLists.lock)
 }
 
-//go:nosplit
 func rec_finalizer_goroutine(thread, _, _, _ uintptr) {
 	if t := (*recThread)(unsafe.Pointer(thread)); t != nil && recOn {
-		var s recStepOf
-		s.op = recFinalizer
-		recStep(t, &s, false)
+		recStep(t, &recStepOf{op: logFinalizer})
 	}
 }
 
 // ---- what the library tells as orders
 
-//go:nosplit
-func recOrder(thread, addr, fp uintptr, op uintptr, releases bool) {
+func recOrder(thread, addr, fp uintptr, op logOp) {
 	t := (*recThread)(unsafe.Pointer(thread))
 	if t == nil || !recOn || t.ignore != 0 {
 		return
 	}
+	s := recStepOf{op: op, addr: addr, fp: fp}
 	if thread == getg().racectx {
-		recSimple(t, op, addr, fp, releases)
-		return
+		recDo(t, &s)
+	} else {
+		recStep(t, &s) // for another goroutine, or for timers
 	}
-	var s recStepOf // for another goroutine, or for timers
-	s.op, s.addr, s.gen = uint64(op), addr, recObject(t, addr)
-	recStep(t, &s, releases)
 }
 
-//go:nosplit
-func rec_acquire(t, addr, _, _ uintptr) { recOrder(t, addr, recFP(), recAcquire, false) }
+func rec_acquire(t, addr, _, _ uintptr) { recOrder(t, addr, recFP(), logAcquire) }
 
-//go:nosplit
-func rec_release(t, addr, _, _ uintptr) { recOrder(t, addr, recFP(), recRelease, true) }
+func rec_release(t, addr, _, _ uintptr) { recOrder(t, addr, recFP(), logRelease) }
 
-//go:nosplit
-func rec_release_merge(t, addr, _, _ uintptr) { recOrder(t, addr, recFP(), recReleaseMerge, true) }
+func rec_release_merge(t, addr, _, _ uintptr) { recOrder(t, addr, recFP(), logReleaseMerge) }
 
-//go:nosplit
-func rec_release_acquire(t, addr, _, _ uintptr) { recOrder(t, addr, recFP(), recReleaseAcquire, true) }
+func rec_release_acquire(t, addr, _, _ uintptr) { recOrder(t, addr, recFP(), logReleaseAcquire) }
 
 // ---- channels, with their lock held
 
-// recElement is the value of an element that has at most eight bytes and no pointers.
-//
-//go:nosplit
-func recElement(c *hchan, elem unsafe.Pointer, s *recStepOf) {
-	s.long = true
-	if elem == nil && c.elemsize != 0 || c.elemsize > 8 || c.elemtype.ptrdata != 0 {
+// recOfChannel notes what a step does with a channel. An element that has at most eight bytes and no pointers has a value.
+func recOfChannel(s *recStepOf, c *hchan, elem unsafe.Pointer) {
+	s.addr = uintptr(unsafe.Pointer(&c.buf))
+	s.value = uint64(uint32(c.dataqsiz))<<32 | uint64(uint32(c.qcount))
+	if s.op != logSend && s.op != logReceive && s.op != logMeet ||
+		elem == nil && c.elemsize != 0 || c.elemsize > 8 || c.elemtype.ptrdata != 0 {
 		return
 	}
 	for i := uintptr(0); i < uintptr(c.elemsize); i++ {
 		s.elem |= uint64(*(*byte)(add(elem, i))) << (8 * i)
 	}
-	s.last = recWithValue
+	s.last |= 1
 }
 
-//go:nosplit
-func recChannel(s *recStepOf, t *recThread, c *hchan) {
-	addr := uintptr(unsafe.Pointer(&c.buf))
-	s.addr, s.gen = addr, recObject(t, addr)
-	s.value = uint64(uint32(c.dataqsiz))<<32 | uint64(uint32(c.qcount))
-}
-
-//go:nosplit
-func recChan(op uintptr, c *hchan, elem unsafe.Pointer) {
+func recChan(op logOp, c *hchan, elem unsafe.Pointer) {
 	if t := recContext(); t != nil && recOn {
-		recCall(abi.FuncPCABIInternal(recChanStep), t, op, uintptr(unsafe.Pointer(c)), uintptr(elem), recFP())
+		s := recStepOf{op: op, fp: recFP()}
+		recOfChannel(&s, c, elem)
+		recDo(t, &s)
 	}
 }
 
-//go:nosplit
-func recChanStep(t *recThread, op, channel, elem, fp uintptr) {
-	c := (*hchan)(unsafe.Pointer(channel))
-	var s recStepOf
-	s.op, s.site = uint64(op), recHere(t, fp)
-	recChannel(&s, t, c)
-	if op == recSend || op == recRecv {
-		recElement(c, unsafe.Pointer(elem), &s)
+// recWaiting is the context of a goroutine that waits for the running one, nil where nothing is told.
+func recWaiting(gp *g) *recThread {
+	if recContext() == nil || !recOn {
+		return nil
 	}
-	recStep(t, &s, op == recSend || op == recRecv || op == recClose)
-	recSwitch(t)
+	return (*recThread)(unsafe.Pointer(gp.racectx))
 }
 
-//go:nosplit
-func recChanFor(op uintptr, c *hchan, elem unsafe.Pointer, gp *g) {
-	if t := recContext(); t != nil && gp.racectx != 0 && recOn {
-		recCall(abi.FuncPCABIInternal(recChanForStep), t, op, uintptr(unsafe.Pointer(c)), uintptr(elem), gp.racectx)
+// recChanFor tells of an operation of a goroutine that waits.
+func recChanFor(op logOp, c *hchan, elem unsafe.Pointer, gp *g) {
+	if other := recWaiting(gp); other != nil {
+		s := recStepOf{op: op, site: other.waits, other: other.me, with: other}
+		recOfChannel(&s, c, elem)
+		recDo(recContext(), &s)
 	}
 }
 
-//go:nosplit
-func recChanForStep(t *recThread, op, channel, elem, waiting uintptr) {
-	c, other := (*hchan)(unsafe.Pointer(channel)), (*recThread)(unsafe.Pointer(waiting))
-	var s recStepOf
-	s.op, s.site, s.other = uint64(op), other.waits, other.me
-	recChannel(&s, t, c)
-	if op == recSend || op == recRecv {
-		recElement(c, unsafe.Pointer(elem), &s)
-	}
-	recStep(t, &s, false)
-	recPass(other, op == recSend || op == recRecv)
-}
-
-// recMeeting is a send and a receive that happen together: the running goroutine's, and that of one that waits.
-type recMeeting struct {
-	channel, elem, waiting, fp uintptr
-	sends                      bool // the running goroutine does
-}
-
-//go:nosplit
+// recMeet tells of a send and a receive that happen together: the running goroutine's, and that of one that waits. sends: the
+// running one sends.
 func recMeet(c *hchan, elem unsafe.Pointer, gp *g, sends bool) {
-	if t := recContext(); t != nil && gp.racectx != 0 && recOn {
-		m := recMeeting{uintptr(unsafe.Pointer(c)), uintptr(elem), gp.racectx, recFP(), sends}
-		recCall(abi.FuncPCABIInternal(recMeetStep), t, uintptr(unsafe.Pointer(&m)), 0, 0, 0)
+	if other := recWaiting(gp); other != nil {
+		s := recStepOf{op: logMeet, other: other.me - 1, last: uint64(other.waits) << 8, with: other, fp: recFP()}
+		if sends {
+			s.aux = 1
+		}
+		recOfChannel(&s, c, elem)
+		recDo(recContext(), &s)
 	}
 }
 
-//go:nosplit
-func recMeetStep(t *recThread, meeting uintptr) {
-	m := (*recMeeting)(unsafe.Pointer(meeting))
-	c, other := (*hchan)(unsafe.Pointer(m.channel)), (*recThread)(unsafe.Pointer(m.waiting))
-	var s recStepOf
-	s.op, s.site, s.other = recMeetOp, recHere(t, m.fp), other.me-1
-	if m.sends {
-		s.aux = 1
+// recEdge: what this goroutine did comes before what gp will do.
+func recEdge(l unsafe.Pointer, gp *g) {
+	if other := recWaiting(gp); other != nil {
+		recDo(recContext(), &recStepOf{op: logEdge, addr: uintptr(l), other: other.me - 1, last: uint64(other.waits) << 8,
+			with: other, fp: recFP()})
 	}
-	recChannel(&s, t, c)
-	recElement(c, unsafe.Pointer(m.elem), &s)
-	s.last |= uint64(other.waits) << 8
-	recStep(t, &s, true)
-	recPass(other, true)
-	recSwitch(t)
 }
 
 // recWait notes where the running goroutine waits.
-//
-//go:nosplit
 func recWait() {
 	if t := recContext(); t != nil && recOn {
 		recCall(abi.FuncPCABIInternal(recWaitAt), t, recFP(), 0, 0, 0)
 	}
 }
 
-//go:nosplit
 func recWaitAt(t *recThread, fp uintptr) {
 	t.waits = recHere(t, fp)
 	recTellPending(t, t)
 }
 
-// recDefault tells of a default of a select of several cases.
-//
-//go:nosplit
+// recDefault tells of a default of a select of several cases, then of these. They have the number of the default.
 func recDefault(scases []scase, nsends int) {
 	t := recContext()
 	if t == nil || !recOn {
 		return
 	}
-	var s recStepOf
+	s := recStepOf{op: logDefault}
 	for i := range scases {
 		if scases[i].c != nil {
 			s.value++
@@ -470,54 +359,25 @@ func recDefault(scases []scase, nsends int) {
 	if s.value == 0 {
 		return
 	}
-	s.op, s.site = recDefaultOp, recHere(t, recFP())
-	seq := recStep(t, &s, false)
+	s.site = recHere(t, recFP())
+	seq := recStep(t, &s)
 	for i := range scases {
-		if c := scases[i].c; c != nil {
-			op := uint64(recCaseRecv)
-			if i < nsends {
-				op = recCaseSend
-			}
-			recCase(t, c, op, seq, s.site)
+		c := scases[i].c
+		if c == nil {
+			continue
+		}
+		s.op = logCaseReceive
+		if i < nsends {
+			s.op = logCaseSend
+		}
+		recOfChannel(&s, c, nil)
+		if at := recPut(t, 2); at != 0 {
+			recWord(at, 8, seq|uint64(recObject(s.addr))<<48)
+			recWord(at, 16, uint64(s.site))
+			recWord(at, 24, s.value)
+			recWord(at, 0, uint64(s.op)|uint64(s.addr)<<16)
 		}
 	}
-}
-
-// recCase writes a case of a default. It has the number of that.
-//
-//go:nosplit
-func recCase(t *recThread, c *hchan, op, seq uint64, site uint32) {
-	var s recStepOf
-	recChannel(&s, t, c)
-	at := recPut(t, 2)
-	if at == 0 {
-		return
-	}
-	recWord(at, 8, seq|uint64(s.gen)<<48)
-	recWord(at, 16, uint64(site))
-	recWord(at, 24, s.value)
-	recWord(at, 0, op|uint64(s.addr)<<16)
-}
-
-// recEdge: what this goroutine did comes before what gp will do.
-//
-//go:nosplit
-func recEdge(l unsafe.Pointer, gp *g) {
-	if t := recContext(); t != nil && gp.racectx != 0 && recOn {
-		recCall(abi.FuncPCABIInternal(recEdgeStep), t, uintptr(l), gp.racectx, recFP(), 0)
-	}
-}
-
-//go:nosplit
-func recEdgeStep(t *recThread, l, waiting, fp uintptr) {
-	other := (*recThread)(unsafe.Pointer(waiting))
-	var s recStepOf
-	s.op, s.site, s.other, s.long = recEdgeOp, recHere(t, fp), other.me-1, true
-	s.addr = l
-	s.gen = recObject(t, s.addr)
-	s.last = uint64(other.waits) << 8
-	recStep(t, &s, true)
-	recPass(other, false)
 }
 
 // ---- atomics
@@ -537,8 +397,6 @@ const (
 )
 
 // recAtomic does an operation of package sync/atomic. args is the stub's frame of arguments and results.
-//
-//go:nosplit
 func recAtomic(operation uintptr, args unsafe.Pointer) {
 	addr := *(*uintptr)(args)
 	t, c := recContext(), recCellOf(addr)
@@ -549,124 +407,88 @@ func recAtomic(operation uintptr, args unsafe.Pointer) {
 	recCall(abi.FuncPCABIInternal(recAtomicStep), t, operation, uintptr(args), recFP(), 0)
 }
 
-//go:nosplit
-func recAtomicStep(t *recThread, operation, frame, fp uintptr) {
-	args := unsafe.Pointer(frame)
-	addr := *(*uintptr)(args)
-	c := recCellOf(addr)
-	var s recStepOf
-	s.site = recHere(t, fp)
-	s.addr, s.aux = addr, 4+4*uint64(operation&1)
-	if o := atomic.Load(&c.owner); o&recShared == 0 && o != 0 || o == recLocked {
-		recEndOwner(t, c, addr)
+func recAtomicStep(t *recThread, operation, args, fp uintptr) {
+	addr := *(*uintptr)(unsafe.Pointer(args))
+	s := recStepOf{site: recHere(t, fp), addr: addr, aux: uint8(4 + 4*(operation&1))}
+	if c := recCellOf(addr); recTake(c)&recShared == 0 {
+		recShare(t, c, addr&^7)
+	} else if c.w != 0 {
+		c.w, c.wmask = 0, 0 // the word's last access isn't that write any more
 	}
-	s.gen = recObject(t, addr)
 	l := &recAtomicLocks[(addr>>3*0x9E3779B1)>>20%4096]
 	recLock(l)
-	s.op, s.value = recDoAtomic(operation, args)
-	recStep(t, &s, s.op == recAtomicStore || s.op == recAtomicRMW)
+	s.op, s.value = recDoAtomic(operation, unsafe.Pointer(args))
+	recStep(t, &s)
 	recUnlock(l)
 	recSwitch(t)
 }
 
-// recEndOwner has a word be shared, since an atomic operation comes to it.
-//
-//go:nosplit
-func recEndOwner(t *recThread, c *recCell, addr uintptr) {
-	for turns := 0; ; turns++ {
-		o := atomic.Load(&c.owner)
-		if o == recLocked {
-			recSpin(turns)
+// recDoAtomic does an operation, and answers its kind and the value that it found or wrote. Behind the address in the frame are
+// arguments of 4 or 8 bytes, and then, where 8 begin, the result.
+func recDoAtomic(operation uintptr, frame unsafe.Pointer) (op logOp, value uint64) {
+	size := 4 + 4*(operation&1)
+	p, first, result := *(*unsafe.Pointer)(frame), add(frame, 8), add(frame, 16)
+	for {
+		old := recValue(p, size)
+		if operation>>1 == recLoad {
+			recPutValue(first, size, old)
+			return logAtomicLoad, old
+		}
+		now, op := recValue(first, size), logAtomicRMW
+		switch operation >> 1 {
+		case recStore:
+			op = logAtomicStore
+		case recAdd:
+			now += old
+		case recCAS:
+			result = add(frame, 8+2*size)
+			if old != now {
+				*(*bool)(result) = false
+				return logAtomicFail, old
+			}
+			now = recValue(add(first, size), size)
+		case recAnd:
+			now &= old
+		case recOr:
+			now |= old
+		}
+		if size == 4 {
+			now = uint64(uint32(now))
+		}
+		if !recReplaces(p, size, old, now) {
 			continue
 		}
-		if o == 0 || o&recShared != 0 {
-			return
+		switch operation >> 1 {
+		case recStore:
+		case recCAS:
+			*(*bool)(result) = true
+		case recAdd:
+			recPutValue(result, size, now)
+		default:
+			recPutValue(result, size, old)
 		}
-		if atomic.Cas(&c.owner, o, recLocked) {
-			recShare(t, c, addr&^7, recShared)
-			return
-		}
+		return op, now
 	}
 }
 
-// recDoAtomic does an operation, and answers its kind and the value that it found or wrote.
-//
-//go:nosplit
-func recDoAtomic(operation uintptr, args unsafe.Pointer) (op, value uint64) {
-	if operation&1 == 0 {
-		return recDo32(operation>>1, *(**uint32)(args), (*[4]uint32)(add(args, 8)))
+func recValue(p unsafe.Pointer, size uintptr) uint64 {
+	if size == 4 {
+		return uint64(atomic.Load((*uint32)(p)))
 	}
-	return recDo64(operation>>1, *(**uint64)(args), (*[3]uint64)(add(args, 8)))
+	return atomic.Load64((*uint64)(p))
 }
 
-//go:nosplit
-func recDo32(operation uintptr, p *uint32, args *[4]uint32) (op, value uint64) {
-	switch operation {
-	case recLoad:
-		args[0] = atomic.Load(p)
-		return recAtomicLoad, uint64(args[0])
-	case recStore:
-		atomic.Store(p, args[0])
-		return recAtomicStore, uint64(args[0])
-	case recSwap:
-		args[2] = atomic.Xchg(p, args[0])
-		return recAtomicRMW, uint64(args[0])
-	case recAdd:
-		args[2] = atomic.Xadd(p, int32(args[0]))
-		return recAtomicRMW, uint64(args[2])
-	case recCAS:
-		ok := atomic.Cas(p, args[0], args[1])
-		*(*bool)(unsafe.Pointer(&args[2])) = ok
-		if !ok {
-			return recAtomicFail, uint64(atomic.Load(p))
-		}
-		return recAtomicRMW, uint64(args[1])
-	}
-	for {
-		old := atomic.Load(p)
-		now := old & args[0]
-		if operation == recOr {
-			now = old | args[0]
-		}
-		if atomic.Cas(p, old, now) {
-			args[2] = old
-			return recAtomicRMW, uint64(now)
-		}
+func recPutValue(p unsafe.Pointer, size uintptr, value uint64) {
+	if size == 4 {
+		*(*uint32)(p) = uint32(value)
+	} else {
+		*(*uint64)(p) = value
 	}
 }
 
-//go:nosplit
-func recDo64(operation uintptr, p *uint64, args *[3]uint64) (op, value uint64) {
-	switch operation {
-	case recLoad:
-		args[0] = atomic.Load64(p)
-		return recAtomicLoad, args[0]
-	case recStore:
-		atomic.Store64(p, args[0])
-		return recAtomicStore, args[0]
-	case recSwap:
-		args[1] = atomic.Xchg64(p, args[0])
-		return recAtomicRMW, args[0]
-	case recAdd:
-		args[1] = atomic.Xadd64(p, int64(args[0]))
-		return recAtomicRMW, args[1]
-	case recCAS:
-		ok := atomic.Cas64(p, args[0], args[1])
-		*(*bool)(unsafe.Pointer(&args[2])) = ok
-		if !ok {
-			return recAtomicFail, atomic.Load64(p)
-		}
-		return recAtomicRMW, args[1]
+func recReplaces(p unsafe.Pointer, size uintptr, old, now uint64) bool {
+	if size == 4 {
+		return atomic.Cas((*uint32)(p), uint32(old), uint32(now))
 	}
-	for {
-		old := atomic.Load64(p)
-		now := old & args[0]
-		if operation == recOr {
-			now = old | args[0]
-		}
-		if atomic.Cas64(p, old, now) {
-			args[1] = old
-			return recAtomicRMW, now
-		}
-	}
+	return atomic.Cas64((*uint64)(p), old, now)
 }

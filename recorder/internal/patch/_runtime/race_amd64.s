@@ -46,96 +46,139 @@ TEXT runtime·recSyscall(SB), NOSPLIT, $0-64
 	MOVQ	AX, ret+56(FP)
 	RET
 
-// A nil pointer faults here, in a function of package sync/atomic. AX, BX: the arguments of recAtomic, whose own
-// stack space is in the frame.
-#define ATOMIC(operation) \
-	GO_ARGS \
-	MOVQ	addr+0(FP), CX \
-	TESTB	AX, (CX) \
-	MOVQ	$operation, AX \
-	LEAQ	addr+0(FP), BX \
-	CALL	runtime·recAtomic<ABIInternal>(SB) \
+// What goroutine DX and the cell BX of an address in AX are, and in CX which of the cell's bytes. What has none returns.
+#define CELL	\
+	MOVQ	g_racectx(R14), DX;	\
+	TESTQ	DX, DX;	\
+	JEQ	done;	\
+	MOVQ	AX, CX;	\
+	MOVQ	AX, BX;	\
+	SHRQ	$const_recHeapBits, CX;	\
+	ANDQ	$~7, BX;	\
+	ADDQ	BX, BX;	\
+	CMPQ	CX, $(const_recHeap>>const_recHeapBits);	\
+	JEQ	found;	\
+	MOVQ	AX, CX;	\
+	MOVQ	runtime·racedataend(SB), SI;	\
+	SUBQ	runtime·racedatastart(SB), CX;	\
+	SUBQ	runtime·racedatastart(SB), SI;	\
+	CMPQ	CX, SI;	\
+	JCC	done;	\
+	ADDQ	runtime·recData(SB), BX;	\
+found:	\
+	MOVL	AX, CX;	\
+	ANDL	$7, CX
+
+// Returns if the goroutine has written this byte since its last step that releases: recIsNow of w.
+#define WRITTEN	\
+	MOVL	recCell_w(BX), SI;	\
+	MOVL	recThread_epoch(DX), DI;	\
+	MOVL	recThread_moment(DX), R8;	\
+	SUBL	DI, SI;	\
+	SUBL	DI, R8;	\
+	CMPL	SI, R8;	\
+	JCC	other;	\
+	MOVBLZX	recCell_wmask(BX), SI;	\
+	BTL	CX, SI;	\
+	JCS	done;	\
+other:
+
+// func raceread(addr uintptr)
+TEXT runtime·raceread<ABIInternal>(SB), NOSPLIT|NOFRAME, $0-8
+	CELL
+	WRITTEN
+	MOVBLZX	recCell_rmask(BX), SI
+	BTL	CX, SI
+	JCC	miss
+	MOVL	recCell_owner(BX), R9
+	MOVL	recCell_r(BX), R10
+	CMPL	R9, recThread_me(DX)
+	JEQ	own
+	MOVL	R9, R11
+	SHRL	$30, R11
+	CMPL	R11, $(const_recShared>>30)
+	JNE	miss
+	MOVL	recThread_tags(DX), R11
+	XORL	R11, R9
+	TESTL	$const_recTag, R9
+	JEQ	done
+	TESTL	$(const_recTag<<const_recTagBits), R9
+	JEQ	done
+	XORL	R11, R10
+	TESTL	$const_recTag, R10
+	JEQ	done
+	TESTL	$(const_recTag<<const_recTagBits), R10
+	JNE	miss
+done:
+	RET
+own:
+	SUBL	DI, R10
+	CMPL	R10, R8
+	JCS	done
+miss:
+	JMP	runtime·recSingle<ABIInternal>(SB)
+
+// func racewrite(addr uintptr)
+TEXT runtime·racewrite<ABIInternal>(SB), NOSPLIT|NOFRAME, $0-8
+	CELL
+	WRITTEN
+	BTSQ	$63, AX
+	JMP	runtime·recSingle<ABIInternal>(SB)
+done:
 	RET
 
-#define SAME(of) \
-	GO_ARGS \
-	JMP	of
+// An operation of package sync/atomic. A nil pointer faults here, in a function of that package. AX, BX: the arguments of
+// recAtomic, whose own stack space is in the frame.
+#define ATOMIC(name, operation, arguments)	\
+TEXT name(SB), NOSPLIT, $24-arguments;	\
+	GO_ARGS;	\
+	MOVQ	addr+0(FP), CX;	\
+	TESTB	AX, (CX);	\
+	MOVQ	$operation, AX;	\
+	LEAQ	addr+0(FP), BX;	\
+	CALL	runtime·recAtomic<ABIInternal>(SB);	\
+	RET
 
-TEXT sync∕atomic·LoadInt32(SB), NOSPLIT, $24-12
-	ATOMIC(0)
-TEXT sync∕atomic·LoadInt64(SB), NOSPLIT, $24-16
-	ATOMIC(1)
-TEXT sync∕atomic·LoadUint32(SB), NOSPLIT, $0-12
-	SAME(sync∕atomic·LoadInt32(SB))
-TEXT sync∕atomic·LoadUint64(SB), NOSPLIT, $0-16
-	SAME(sync∕atomic·LoadInt64(SB))
-TEXT sync∕atomic·LoadUintptr(SB), NOSPLIT, $0-16
-	SAME(sync∕atomic·LoadInt64(SB))
-TEXT sync∕atomic·LoadPointer(SB), NOSPLIT, $0-16
-	SAME(sync∕atomic·LoadInt64(SB))
+ATOMIC(sync∕atomic·LoadInt32, 0, 12)
+ATOMIC(sync∕atomic·LoadUint32, 0, 12)
+ATOMIC(sync∕atomic·LoadInt64, 1, 16)
+ATOMIC(sync∕atomic·LoadUint64, 1, 16)
+ATOMIC(sync∕atomic·LoadUintptr, 1, 16)
+ATOMIC(sync∕atomic·LoadPointer, 1, 16)
 
-TEXT sync∕atomic·StoreInt32(SB), NOSPLIT, $24-12
-	ATOMIC(2)
-TEXT sync∕atomic·StoreInt64(SB), NOSPLIT, $24-16
-	ATOMIC(3)
-TEXT sync∕atomic·StoreUint32(SB), NOSPLIT, $0-12
-	SAME(sync∕atomic·StoreInt32(SB))
-TEXT sync∕atomic·StoreUint64(SB), NOSPLIT, $0-16
-	SAME(sync∕atomic·StoreInt64(SB))
-TEXT sync∕atomic·StoreUintptr(SB), NOSPLIT, $0-16
-	SAME(sync∕atomic·StoreInt64(SB))
+ATOMIC(sync∕atomic·StoreInt32, 2, 12)
+ATOMIC(sync∕atomic·StoreUint32, 2, 12)
+ATOMIC(sync∕atomic·StoreInt64, 3, 16)
+ATOMIC(sync∕atomic·StoreUint64, 3, 16)
+ATOMIC(sync∕atomic·StoreUintptr, 3, 16)
 
-TEXT sync∕atomic·SwapInt32(SB), NOSPLIT, $24-20
-	ATOMIC(4)
-TEXT sync∕atomic·SwapInt64(SB), NOSPLIT, $24-24
-	ATOMIC(5)
-TEXT sync∕atomic·SwapUint32(SB), NOSPLIT, $0-20
-	SAME(sync∕atomic·SwapInt32(SB))
-TEXT sync∕atomic·SwapUint64(SB), NOSPLIT, $0-24
-	SAME(sync∕atomic·SwapInt64(SB))
-TEXT sync∕atomic·SwapUintptr(SB), NOSPLIT, $0-24
-	SAME(sync∕atomic·SwapInt64(SB))
+ATOMIC(sync∕atomic·SwapInt32, 4, 20)
+ATOMIC(sync∕atomic·SwapUint32, 4, 20)
+ATOMIC(sync∕atomic·SwapInt64, 5, 24)
+ATOMIC(sync∕atomic·SwapUint64, 5, 24)
+ATOMIC(sync∕atomic·SwapUintptr, 5, 24)
 
-TEXT sync∕atomic·AddInt32(SB), NOSPLIT, $24-20
-	ATOMIC(6)
-TEXT sync∕atomic·AddInt64(SB), NOSPLIT, $24-24
-	ATOMIC(7)
-TEXT sync∕atomic·AddUint32(SB), NOSPLIT, $0-20
-	SAME(sync∕atomic·AddInt32(SB))
-TEXT sync∕atomic·AddUint64(SB), NOSPLIT, $0-24
-	SAME(sync∕atomic·AddInt64(SB))
-TEXT sync∕atomic·AddUintptr(SB), NOSPLIT, $0-24
-	SAME(sync∕atomic·AddInt64(SB))
+ATOMIC(sync∕atomic·AddInt32, 6, 20)
+ATOMIC(sync∕atomic·AddUint32, 6, 20)
+ATOMIC(sync∕atomic·AddInt64, 7, 24)
+ATOMIC(sync∕atomic·AddUint64, 7, 24)
+ATOMIC(sync∕atomic·AddUintptr, 7, 24)
 
-TEXT sync∕atomic·CompareAndSwapInt32(SB), NOSPLIT, $24-17
-	ATOMIC(8)
-TEXT sync∕atomic·CompareAndSwapInt64(SB), NOSPLIT, $24-25
-	ATOMIC(9)
-TEXT sync∕atomic·CompareAndSwapUint32(SB), NOSPLIT, $0-17
-	SAME(sync∕atomic·CompareAndSwapInt32(SB))
-TEXT sync∕atomic·CompareAndSwapUint64(SB), NOSPLIT, $0-25
-	SAME(sync∕atomic·CompareAndSwapInt64(SB))
-TEXT sync∕atomic·CompareAndSwapUintptr(SB), NOSPLIT, $0-25
-	SAME(sync∕atomic·CompareAndSwapInt64(SB))
+ATOMIC(sync∕atomic·CompareAndSwapInt32, 8, 17)
+ATOMIC(sync∕atomic·CompareAndSwapUint32, 8, 17)
+ATOMIC(sync∕atomic·CompareAndSwapInt64, 9, 25)
+ATOMIC(sync∕atomic·CompareAndSwapUint64, 9, 25)
+ATOMIC(sync∕atomic·CompareAndSwapUintptr, 9, 25)
 
 // From Go 1.23.
-TEXT sync∕atomic·AndInt32(SB), NOSPLIT, $24-20
-	ATOMIC(10)
-TEXT sync∕atomic·AndInt64(SB), NOSPLIT, $24-24
-	ATOMIC(11)
-TEXT sync∕atomic·AndUint32(SB), NOSPLIT, $0-20
-	SAME(sync∕atomic·AndInt32(SB))
-TEXT sync∕atomic·AndUint64(SB), NOSPLIT, $0-24
-	SAME(sync∕atomic·AndInt64(SB))
-TEXT sync∕atomic·AndUintptr(SB), NOSPLIT, $0-24
-	SAME(sync∕atomic·AndInt64(SB))
-TEXT sync∕atomic·OrInt32(SB), NOSPLIT, $24-20
-	ATOMIC(12)
-TEXT sync∕atomic·OrInt64(SB), NOSPLIT, $24-24
-	ATOMIC(13)
-TEXT sync∕atomic·OrUint32(SB), NOSPLIT, $0-20
-	SAME(sync∕atomic·OrInt32(SB))
-TEXT sync∕atomic·OrUint64(SB), NOSPLIT, $0-24
-	SAME(sync∕atomic·OrInt64(SB))
-TEXT sync∕atomic·OrUintptr(SB), NOSPLIT, $0-24
-	SAME(sync∕atomic·OrInt64(SB))
+ATOMIC(sync∕atomic·AndInt32, 10, 20)
+ATOMIC(sync∕atomic·AndUint32, 10, 20)
+ATOMIC(sync∕atomic·AndInt64, 11, 24)
+ATOMIC(sync∕atomic·AndUint64, 11, 24)
+ATOMIC(sync∕atomic·AndUintptr, 11, 24)
+
+ATOMIC(sync∕atomic·OrInt32, 12, 20)
+ATOMIC(sync∕atomic·OrUint32, 12, 20)
+ATOMIC(sync∕atomic·OrInt64, 13, 24)
+ATOMIC(sync∕atomic·OrUint64, 13, 24)
+ATOMIC(sync∕atomic·OrUintptr, 13, 24)

@@ -1,4 +1,5 @@
-// races: Box_Items, Box_Index, Box_Pair_a, Box_Pair_b
+// races: Box_Items, Box_Index, Box_Pair_a; perhaps: Box_Pair_b
+// why: words of a value that are always read and written together are one variable, which has the name of the first
 
 package main
 

@@ -7,33 +7,31 @@ import (
 	"os"
 	"os/exec"
 	"path/filepath"
+	"regexp"
 	"strings"
 
+	"gorace.local/recorder/internal/patch"
 	"gorace.local/recorder/internal/process"
 )
 
 // A builder builds programs with the hooks.
 type builder struct {
 	keeper *process.Keeper
-	tool   *toolchain
-	flags  []string // of the command go, those that gorec adds to
-	others []string // the user's, as they are
+	flags  []string // of the command go
 	env    []string // nil for gorec's own
-	folder string   // for what isn't kept
 }
 
-// newBuilder finds the Go of this folder, and what its builds need.
-func newBuilder(k *process.Keeper, user *goFlags, folder string) (*builder, error) {
-	tool, err := findToolchain()
+// newBuilder finds the Go of this folder, which its go.mod may name, and what its builds need beside the user's flags.
+func newBuilder(k *process.Keeper, user []string) (*builder, error) {
+	tool, err := patch.Find("go", "", nil)
 	if err != nil {
 		return nil, err
 	}
-	all := &goFlags{}
-	if err := all.takeEnvironment(tool.GOFLAGS); err != nil {
-		return nil, err
+	folder := cacheFolder()
+	if folder == "" {
+		folder = k.Folder
 	}
-	all.add(user)
-	hooks, err := tool.hooks(folder)
+	hooks, err := patch.Overlay(tool, filepath.Join(folder, "hooks"))
 	if err != nil {
 		return nil, err
 	}
@@ -41,35 +39,104 @@ func newBuilder(k *process.Keeper, user *goFlags, folder string) (*builder, erro
 	if err != nil {
 		return nil, err
 	}
-	b := &builder{keeper: k, tool: tool, others: all.others, folder: folder}
-	if b.flags, err = all.merged(hooks, dir); err != nil {
-		return nil, err
+	out, err := exec.Command("go", "env", "CGO_ENABLED", "CC", "GOFLAGS").Output()
+	if err != nil {
+		return nil, fmt.Errorf("go env: %w", err)
 	}
-	if tool.lacksC() {
+	values := strings.SplitN(string(out), "\n", 3)
+	b := &builder{keeper: k}
+	if values[0] == "1" && lacksC(values[1]) {
 		b.env = append(os.Environ(), "CGO_ENABLED=0")
 	}
-	return b, nil
+	b.flags, err = flagsWith(hooks, dir, values[2], user)
+	return b, err
 }
 
-// goCommand is the command go, with gorec's flags in front of the user's and of other words.
-func (b *builder) goCommand(words, others []string) *exec.Cmd {
-	var all []string
-	for _, list := range [][]string{words[:1], b.flags, words[1:], b.others, others} {
-		all = append(all, list...)
+// lacksC reports whether cgo is on by default, though there is no C compiler. From 1.20 on the command go looks itself.
+func lacksC(compiler string) bool {
+	_, err := exec.LookPath(strings.Split(compiler, " ")[0])
+	return err != nil && os.Getenv("CGO_ENABLED") == ""
+}
+
+// keepsDebug are the flags of the linker that keep debugging information, which tells names, also behind flags that
+// leave it out, as go test's own. What isn't compressed is read faster.
+const keepsDebug = "-s=false -w=false -compressdwarf=false"
+
+// goWord is one of several words as the command go reads them: one that begins with a quote goes up to the next one.
+var goWord = regexp.MustCompile(`'([^']*)'|"([^"]*)"|(\S+)`)
+
+// wordsOf are those of GOFLAGS.
+func wordsOf(goflags string) ([]string, error) {
+	var words []string
+	for _, m := range goWord.FindAllStringSubmatch(goflags, -1) {
+		word := m[1] + m[2] + m[3]
+		name, value, _ := cutFlag(word)
+		if err := cantGoWith(name, value); err != nil {
+			return nil, fmt.Errorf("GOFLAGS: %w", err)
+		}
+		words = append(words, word)
 	}
-	cmd := exec.Command("go", all...)
-	cmd.Stdin, cmd.Stdout, cmd.Stderr = os.Stdin, os.Stdout, os.Stderr
-	cmd.Env = b.env
+	return words, nil
+}
+
+// flagsWith are the flags of a build with the hooks. Those of GOFLAGS that gorec's would hide stand in front of the user's; the
+// command go itself takes the others.
+func flagsWith(hooks *patch.Set, dir, goflags string, user []string) ([]string, error) {
+	environment, err := wordsOf(goflags)
+	if err != nil {
+		return nil, err
+	}
+	var of patch.Flags
+	linker, others := []string{keepsDebug}, []string{}
+	covers, hasMode := false, false
+	for i, word := range append(environment, user...) {
+		name, value, _ := cutFlag(word)
+		switch name = strings.TrimPrefix(name, "test."); name {
+		case "tags":
+			of.Tags = value
+		case "overlay":
+			of.Overlay = value
+		case "gcflags":
+			of.Gcflags = append(of.Gcflags, value)
+		case "ldflags":
+			linker = append(linker, strings.TrimLeft(value+" "+keepsDebug, " "))
+		case "race": // gorec looks for races itself
+		default:
+			covers = covers || name == "cover" || name == "coverprofile" || name == "coverpkg"
+			hasMode = hasMode || name == "covermode"
+			if i >= len(environment) {
+				others = append(others, word)
+			}
+		}
+	}
+	flags, err := hooks.Flags(of, dir)
+	if err != nil {
+		return nil, err
+	}
+	flags = append(flags, "-race=false")
+	for _, value := range linker {
+		flags = append(flags, "-ldflags="+value)
+	}
+	if covers && !hasMode {
+		flags = append(flags, "-covermode=atomic") // as with -race, since other counters race
+	}
+	return append(flags, others...), nil
+}
+
+// goCommand is the command go, with gorec's flags and the user's in front of other words.
+func (b *builder) goCommand(command string, others ...string) *exec.Cmd {
+	cmd := exec.Command("go", append(append([]string{command}, b.flags...), others...)...)
+	cmd.Stdout, cmd.Stderr, cmd.Env = os.Stdout, os.Stderr, b.env
 	return cmd
 }
 
 // program builds the program that is named, and answers its file.
 func (b *builder) program(named []string) (string, error) {
-	folder := filepath.Join(b.folder, "program")
+	folder := filepath.Join(b.keeper.Folder, "built")
 	if err := os.Mkdir(folder, 0o755); err != nil {
 		return "", err
 	}
-	if err := b.keeper.Run(b.goCommand([]string{"build", "-o", folder + string(filepath.Separator)}, named)); err != nil {
+	if err := b.keeper.Run(b.goCommand("build", append([]string{"-o", folder + "/"}, named...)...), process.Go); err != nil {
 		return "", fmt.Errorf("nothing was run: go build: %w", err)
 	}
 	built, err := os.ReadDir(folder)
@@ -85,53 +152,38 @@ func (b *builder) program(named []string) (string, error) {
 }
 
 var buildCommand = command{
-	name: "build", takesWords: true,
+	name:  "build",
 	words: "[flags] -o PROGRAM PACKAGE",
 	about: "builds a program to be run elsewhere",
 	more: `The program writes its log to the file that GOREC_LOG names. gorec trace makes its trace, and gorec exec runs it as
 gorec run does. Other flags are those of go build, with -tests those of go test.
 `,
-	prepare: func(flags *flag.FlagSet) func(*process.Keeper, []string) (int, error) {
-		out := flags.String("o", "", "the `file` to build")
-		tests := flags.Bool("tests", false, "build the package's tests")
-		return func(k *process.Keeper, args []string) (int, error) {
-			p := &wordParser{command: "build", own: flags, help: &goHelp{topics: []string{"build", "testflag"}}, args: args}
-			rest, err := p.parse()
+	topics: []string{"build", "testflag"},
+	prepare: func(own *flag.FlagSet) func(*process.Keeper, *words) (int, error) {
+		out := own.String("o", "", "the `file` to build")
+		tests := own.Bool("tests", false, "build the package's tests")
+		return func(k *process.Keeper, w *words) (int, error) {
 			switch {
-			case err != nil:
-				return 0, err
-			case len(rest) == 0:
-				return 0, noPackage("build")
+			case len(w.rest) == 0:
+				return 0, errNoPackage
 			case *out == "":
-				return 0, &usageError{"build", errors.New("-o has to name the program")}
+				return 0, errors.New("-o has to name the program")
 			}
-			return buildTo(k, &p.flags, rest, *out, *tests)
+			b, err := newBuilder(k, w.flags)
+			if err != nil {
+				return 0, err
+			}
+			cmd := b.goCommand("build", append([]string{"-o", *out}, w.rest...)...)
+			if *tests {
+				cmd = b.goCommand("test", append([]string{"-c", "-o", *out}, w.rest...)...)
+			}
+			if err := k.Run(cmd, process.Go); err != nil {
+				return 0, fmt.Errorf("nothing was built: go %s: %w", cmd.Args[1], err)
+			}
+			return 0, nil
 		}
 	},
 }
 
-// buildTo builds a program, or a package's tests, to a file.
-func buildTo(k *process.Keeper, flags *goFlags, named []string, out string, tests bool) (int, error) {
-	folder, err := newFolder()
-	if err != nil {
-		return 0, err
-	}
-	defer folder.remove()
-	b, err := newBuilder(k, flags, folder.path)
-	if err != nil {
-		return 0, err
-	}
-	words := []string{"build", "-o", out}
-	if tests {
-		words = []string{"test", "-c", "-o", out}
-	}
-	if err := k.Run(b.goCommand(words, named)); err != nil {
-		return 0, fmt.Errorf("nothing was built: go %s: %w", words[0], err)
-	}
-	return 0, nil
-}
-
-// noPackage is the mistake of those who name none.
-func noPackage(command string) error {
-	return &usageError{command, errors.New("no package was named; . is this folder")}
-}
+// errNoPackage is the mistake of those who name none.
+var errNoPackage = errors.New("no package was named; . is this folder")

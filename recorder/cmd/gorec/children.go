@@ -11,79 +11,60 @@ import (
 // A recorded program that starts itself again, as tests do, has that process write a log of its own: the program's with
 // the number of the process behind its name.
 
-// children are the logs of such processes.
-func (l *hookLog) children() []string {
+// judgeChildren has the logs of such processes judged.
+func (l *hookLog) judgeChildren(r *run) error {
 	files, _ := filepath.Glob(l.path + ".*")
-	var logs []string
-	for _, file := range files {
-		if _, err := strconv.ParseUint(processOf(file), 10, 32); err == nil {
-			logs = append(logs, file)
+	judged := 0
+	for _, log := range files {
+		process := strings.TrimPrefix(filepath.Ext(log), ".")
+		if _, err := strconv.ParseUint(process, 10, 32); err != nil {
+			continue
 		}
-	}
-	return logs
-}
-
-// processOf is the number of the process that has written a log.
-func processOf(log string) string { return strings.TrimPrefix(filepath.Ext(log), ".") }
-
-// judgeChildren has the logs of processes judged that a program started.
-func (l *hookLog) judgeChildren(j *judging) error {
-	logs := l.children()
-	for _, log := range logs {
-		if err := l.judgeChild(j, log); err != nil {
-			return fmt.Errorf("process %s, which the program started: %w", processOf(log), err)
+		if err := r.judgeChild(log, process); err != nil {
+			return fmt.Errorf("process %s, which the program started: %w", process, err)
 		}
+		judged++
 	}
-	if len(logs) > 0 {
-		fmt.Fprintf(j.c.notes, "gorec: processes that the program started, which are judged too: %d\n", len(logs))
+	if judged > 0 {
+		fmt.Fprintf(r.notes, "gorec: processes that the program started, which are judged too: %d\n", judged)
 	}
 	return nil
 }
 
-// judgeChild has such a log judged. What is said of it is told unless it is clean.
-func (l *hookLog) judgeChild(j *judging, log string) error {
-	child, err := openHookLog(l.session, l.program, log)
-	if err != nil {
-		return err
-	}
-	defer child.drop()
-	t := *j.t
-	t.name += "." + processOf(log)
-	t.beside = t.scratch() + "." + processOf(log)
-	create := l.createTrace
-	if l.out != "" && !isFolder(l.out) { // which the program's own trace has
-		create = temporaryTrace
-	}
-	out, err := create(&t)
-	if err != nil {
-		return err
-	}
-	defer out.drop()
+// judgeChild has such a log judged. What is said of it is told unless it is clean, or its races were told.
+func (r *run) judgeChild(log, process string) error {
 	var told bytes.Buffer
-	o := &outcome{}
-	of := newJudging(l.session, &t, &console{out: &told, notes: &told}, out, o)
-	of.told = j.told
-	if err := child.judgeWhole(of); err != nil {
+	s := *r.session
+	s.name, s.out, s.notes = s.name+"."+process, &told, &told
+	l, err := s.openLog(log)
+	if err != nil {
 		return err
 	}
-	if o.status == 0 && o.summary.Cut != "" {
-		o.status = cutOff
+	defer l.drop()
+	child := s.newRun("")
+	child.told = r.told
+	ended := make(chan struct{})
+	close(ended)
+	if err := l.follow(child, ended); err != nil {
+		return err
 	}
-	if o.status != 0 && (o.status != racing || len(o.racing) > 0) { // else its races were told
-		o.trace = out.keep(o.status, false)
-		l.tellTrace(&told, o)
-		fmt.Fprintf(j.c.out, "gorec: of process %s, which the program started:\n", processOf(log))
-		told.WriteTo(j.c.out)
+	child.settle()
+	if child.Status != 0 && (child.Status != racing || len(child.reports) > 0) {
+		as := ""
+		if s.kept == "" || isFolder(s.kept) { // else it has the program's own trace
+			if as, err = s.keptAs(); err != nil {
+				return err
+			}
+		}
+		child.keep(as)
+		child.tellTrace()
+		fmt.Fprintf(r.out, "gorec: of process %s, which the program started:\n", process)
+		told.WriteTo(r.out)
 	}
-	j.o.join(o)
+	r.Status = worse(child.Status, r.Status)
+	r.reports = append(r.reports, child.reports...)
+	r.Races += child.Races
+	r.Predicted += child.Predicted
+	r.NotSearched += child.NotSearched
 	return nil
-}
-
-// join adds what is known of another process of the run, which has a trace of its own.
-func (o *outcome) join(p *outcome) {
-	o.status = worse(p.status, o.status)
-	o.racing = append(o.racing, p.racing...)
-	o.raceCount += p.raceCount
-	o.predictedCount += p.predictedCount
-	o.notSearched += p.notSearched
 }

@@ -1,7 +1,6 @@
 package main
 
 import (
-	"bytes"
 	"errors"
 	"fmt"
 	"io"
@@ -22,32 +21,38 @@ type judge struct {
 
 // findJudge finds what the flag or GOREC_JUDGE says, else the program beside this one, else
 // that on the PATH.
-func findJudge(flag string) (*judge, error) {
-	if flag == "" {
-		flag = os.Getenv("GOREC_JUDGE")
+func findJudge(named string) (*judge, error) {
+	if named == "" {
+		named = os.Getenv("GOREC_JUDGE")
 	}
-	if words := judgeWords(flag); len(words) > 0 {
-		path, err := exec.LookPath(words[0])
-		if err != nil {
-			return nil, fmt.Errorf("no judge: %w", err)
-		}
-		j := &judge{words: append([]string{path}, words[1:]...), shown: flag}
-		if len(words) == 1 {
-			j.shown = shownJudge(path)
-		}
-		return j, nil
+	words := strings.Fields(named)
+	if isFile(named) {
+		words = []string{named}
 	}
-	path, err := exec.LookPath("gorace")
-	if own, failed := os.Executable(); failed == nil {
-		beside := filepath.Join(filepath.Dir(own), "gorace")
-		if st, missing := os.Stat(beside); missing == nil && !st.IsDir() && beside != path {
-			return &judge{[]string{beside}, shownJudge(beside)}, nil
+	if len(words) == 0 {
+		words = []string{"gorace"}
+		if own, err := os.Executable(); err == nil && isFile(filepath.Join(filepath.Dir(own), "gorace")) {
+			words[0] = filepath.Join(filepath.Dir(own), "gorace")
 		}
 	}
-	if err != nil {
+	path, err := exec.LookPath(words[0])
+	switch {
+	case err != nil && words[0] == "gorace":
 		return nil, errors.New("no judge: gorace is neither beside gorec nor on the PATH; -gorace CMD or GOREC_JUDGE names it")
+	case err != nil:
+		return nil, fmt.Errorf("no judge: %w", err)
+	case len(words) == 1:
+		named = shownJudge(path)
 	}
-	return &judge{[]string{path}, "gorace"}, nil
+	if path, err = filepath.Abs(path); err != nil { // as of tests, which run elsewhere
+		return nil, err
+	}
+	return &judge{append([]string{path}, words[1:]...), named}, nil
+}
+
+func isFile(path string) bool {
+	st, err := os.Stat(path)
+	return err == nil && !st.IsDir()
 }
 
 // shownJudge is how a user may call a judge: by its name where the PATH has it.
@@ -62,50 +67,29 @@ func shownJudge(path string) string {
 	return shown(path)
 }
 
-// judgeWords splits a command at its blanks, unless it is the path of a file.
-func judgeWords(command string) []string {
-	if st, err := os.Stat(command); err == nil && !st.IsDir() {
-		return []string{command}
-	}
-	return strings.Fields(command)
-}
-
-// ask has a command judge a trace. The report is written, and stands in the outcome, with its
-// status. Where a signal for the program has ended the judge too, it is asked once more.
-func (j *judge) ask(k *process.Keeper, command []string, path string, to, notes io.Writer, o *outcome) error {
-	interrupted := k.Interrupted()
-	err := j.askOnce(k, command, path, to, notes, o)
-	if err != nil && !interrupted && k.Interrupted() {
-		err = j.askOnce(k, command, path, to, notes, o)
-	}
-	return err
-}
-
 // cleanLine is in the report on a trace without races.
 var cleanLine = regexp.MustCompile(`(?m)^clean: `)
 
-func (j *judge) askOnce(k *process.Keeper, command []string, path string, to, notes io.Writer, o *outcome) error {
+// ask has a command judge a trace.
+func (j *judge) ask(k *process.Keeper, command []string, path string, notes io.Writer) (*report, error) {
 	in, err := os.Open(path)
 	if err != nil {
-		return err
+		return &report{}, err
 	}
 	defer in.Close()
-	var output bytes.Buffer
-	words := append(j.words[1:len(j.words):len(j.words)], command...)
-	cmd := exec.Command(j.words[0], words...)
+	var output strings.Builder
+	cmd := exec.Command(j.words[0], append(j.words[1:len(j.words):len(j.words)], command...)...)
 	cmd.Stdin, cmd.Stdout, cmd.Stderr = in, &output, notes
-	err = k.Run(cmd)
-	o.read(output.String())
-	io.WriteString(to, o.report)
+	err = k.Run(cmd, process.Judge)
+	r := readReport(output.String())
 	var ended *exec.ExitError
 	switch {
-	case err == nil && !cleanLine.MatchString(o.report):
-		return fmt.Errorf("the trace wasn't judged: %s ended with 0 and didn't say that it is clean", j.shown)
-	case err == nil:
 	case errors.As(err, &ended) && ended.ExitCode() > 0:
-		o.status = ended.ExitCode()
-	default:
-		return fmt.Errorf("the trace wasn't judged: %w", err)
+		r.status = ended.ExitCode()
+	case err != nil:
+		return r, fmt.Errorf("the trace wasn't judged: %w", err)
+	case !cleanLine.MatchString(r.text):
+		return r, fmt.Errorf("the trace wasn't judged: %s ended with 0 and didn't say that it is clean", j.shown)
 	}
-	return nil
+	return r, nil
 }

@@ -2,11 +2,10 @@
 // proved.
 //
 // run (run.go) and test (tests.go) have a builder (build.go) find the Go of the folder, make the overlay with the hooks
-// (internal/patch), and run the command go; of tests that runs exec (exec.go). repeat (recording.go) calls once, whose
-// recordAndJudge runs the program by record, while follow (follow.go) reads its log along and has judgePart (segments.go) judge
-// each segment: judgeSegment writes a trace, and ask (judge.go) runs gorace and prints its report, from which read
-// (predicted.go) takes the predicted lines. explain and tell (report.go), tellPredicted (predicted.go) and tellTrace
-// (tracefile.go) print the rest.
+// (internal/patch), and run the command go; of tests that runs exec (exec.go). repeat (session.go) calls once, where record runs the
+// program, while follow (follow.go) reads its log along and has judgeSegment (segments.go) have each segment judged: judgeTrace writes a
+// trace, and ask (judge.go) runs gorace on it. readReport (report.go) takes its report apart, learn adds what is known of the
+// accesses, and tellMore (told.go) tells that. keep (tracefile.go) keeps the trace, and tellTrace names it.
 package main
 
 import (
@@ -15,7 +14,6 @@ import (
 	"fmt"
 	"io"
 	"os"
-	"syscall"
 
 	"gorace.local/recorder/internal/process"
 )
@@ -30,31 +28,21 @@ const (
 	cutOff   = 20
 	failed   = 21
 	racing   = 66
-	unread   = 128 + int(syscall.SIGPIPE) // as shells have it
 )
 
-// A command is one of gorec's. It answers the status to end with, or an error, which is told
-// and ends with unusable.
+// A command is one of gorec's.
 type command struct {
 	name, words, about, more string
-	takesWords               bool // it takes its words apart itself
-	prepare                  func(*flag.FlagSet) func(k *process.Keeper, args []string) (int, error)
+	topics                   []string // of go help: the flags of the command go that it takes too
+	isTest                   bool     // its words are those of go test
+
+	// prepare defines the flags. What it answers does the command, and answers the status to end with, or an error, which is told
+	// and ends with unusable.
+	prepare func(own *flag.FlagSet) func(*process.Keeper, *words) (int, error)
 }
 
 // commands are in the order in which help tells them.
 var commands = []*command{&runCommand, &testCommand, &execCommand, &buildCommand, &traceCommand}
-
-// usageError is a mistake in a command's words.
-type usageError struct {
-	command string
-	err     error
-}
-
-func (e *usageError) Error() string {
-	return fmt.Sprintf("%s: %v (gorec help %s)", e.command, e.err, e.command)
-}
-
-func (e *usageError) Unwrap() error { return e.err }
 
 func main() {
 	status, err := dispatch(os.Args[1:])
@@ -70,80 +58,60 @@ func dispatch(args []string) (int, error) {
 		overview(os.Stderr)
 		return unusable, nil
 	}
+	isHelp := false
 	switch args[0] {
-	case "help", "-h", "-help", "--help":
-		return 0, help(args[1:])
 	case "version", "-version", "--version":
 		fmt.Print(version)
 		return 0, nil
-	}
-	c := find(args[0])
-	if c == nil {
-		return 0, fmt.Errorf("there is no command %s (gorec help lists them)", args[0])
-	}
-	flags := c.flags()
-	do := c.prepare(flags)
-	if !c.takesWords {
-		err := flags.Parse(args[1:])
-		switch {
-		case errors.Is(err, flag.ErrHelp):
-			return 0, c.help()
-		case err != nil:
-			return 0, &usageError{c.name, err}
+	case "help", "-h", "-help", "--help":
+		if len(args) == 1 {
+			overview(os.Stdout)
+			return 0, nil
 		}
-		args = append(args[:1:1], flags.Args()...)
+		isHelp, args = true, args[1:]
 	}
-	keeper := process.New()
-	status, err := do(keeper, args[1:])
-	switch {
-	case errors.Is(err, flag.ErrHelp):
-		return 0, c.help()
-	case keeper.Unread():
-		return unread, nil
-	}
-	return status, err
-}
-
-func find(name string) *command {
 	for _, c := range commands {
-		if c.name == name {
-			return c
+		switch {
+		case c.name != args[0]:
+		case isHelp:
+			c.help()
+			return 0, nil
+		default:
+			return c.run(args[1:])
 		}
 	}
-	return nil
+	return 0, fmt.Errorf("there is no command %s (gorec help lists them)", args[0])
 }
 
-func (c *command) flags() *flag.FlagSet {
-	flags := flag.NewFlagSet(c.name, flag.ContinueOnError)
-	flags.SetOutput(io.Discard)
-	return flags
-}
-
-// help tells of all commands, or of one.
-func help(args []string) error {
-	if len(args) == 0 {
-		overview(os.Stdout)
-		return nil
+func (c *command) run(args []string) (int, error) {
+	w := &words{own: newFlagSet(c.name)}
+	do := c.prepare(w.own)
+	switch err := w.parse(c, args); {
+	case errors.Is(err, flag.ErrHelp):
+		c.help()
+		return 0, nil
+	case err != nil:
+		return 0, fmt.Errorf("%s: %w (gorec help %s)", c.name, err, c.name)
 	}
-	c := find(args[0])
-	if c == nil {
-		return fmt.Errorf("there is no command %s (gorec help lists them)", args[0])
+	keeper, err := process.New()
+	if err != nil {
+		return 0, err
 	}
-	return c.help()
+	defer keeper.End()
+	return do(keeper, w)
 }
 
 // help tells of a command, and of its flags.
-func (c *command) help() error {
+func (c *command) help() {
 	fmt.Printf("usage: gorec %s %s\n\n%s\n", c.name, c.words, c.about)
 	if c.more != "" {
 		fmt.Print("\n" + c.more)
 	}
 	fmt.Print("\nThe flags:\n")
-	flags := c.flags()
-	c.prepare(flags)
+	flags := flag.NewFlagSet(c.name, flag.ContinueOnError)
 	flags.SetOutput(os.Stdout)
+	c.prepare(flags)
 	flags.PrintDefaults()
-	return nil
 }
 
 func overview(w io.Writer) {

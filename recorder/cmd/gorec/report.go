@@ -2,153 +2,124 @@ package main
 
 import (
 	"fmt"
-	"io"
 	"regexp"
 	"strconv"
-	"strings"
 
 	"gorace.local/recorder/internal/trace"
+	"gorace.local/recorder/internal/translate"
 )
 
-// An access is one of the two of a race.
+// An access is one of the two of a race, and what is known of it.
 type access struct {
 	Kind, Goroutine, Place string
 	Event                  int
+	Change                 bool             `json:",omitempty"` // the read stands for a change
+	Test                   string           `json:",omitempty"` // that it belongs to
+	Behind                 string           // what it held, and last synchronized by
+	Stack                  []translate.Call `json:",omitempty"`
+	Started                *started         `json:",omitempty"` // unless it is main
+
+	leftOut []string // the locks it held that the trace leaves out
+}
+
+// started is where a goroutine was started.
+type started struct {
+	By    string           `json:",omitempty"` // nobody where it was in an earlier segment
+	Place string           `json:",omitempty"` // none where code that isn't recorded started it
+	Stack []translate.Call `json:",omitempty"`
 }
 
 // A race is one of a report.
 type race struct {
-	Variable      string
-	First, Second access
+	Variable string
+	Accesses [2]access
+	Order    string `json:",omitempty"` // of a predicted one: how another run comes to it
 }
 
-// raceLine is the line of a race in a report.
-var raceLine = lineOf("race")
-
-// lineOf matches the lines of races that a report calls so.
-func lineOf(what string) *regexp.Regexp {
-	const side = `(\w+) by (\w+) at (\S+) \(event (\d+)\)`
-	return regexp.MustCompile(`(?m)^` + what + ` on (\S+): ` + side + `, ` + side + `$`)
+// A report is what the judge tells of a trace. The judge predicts races of other orders of a run, in which each goroutine does
+// what was recorded of it, up to where it stops.
+type report struct {
+	status            int
+	text, predictions string // of the recorded order, and of others
+	races, predicted  []race // of these
+	notSearched       int    // so many variables, in other orders
+	summary           *trace.Summary
 }
 
-// racesOf are the races of a report, in lines of that form.
-func racesOf(report string, line *regexp.Regexp) []race {
+var (
+	raceLine = regexp.MustCompile(`(?m)^(?:predicted )?race on (\S+): ` +
+		`(\w+) by (\w+) at (\S+) \(event (\d+)\), (\w+) by (\w+) at (\S+) \(event (\d+)\)$`)
+	predictions = regexp.MustCompile(`(?m)^(predicted race on |not searched: |predicted: )`)
+	notSearched = regexp.MustCompile(`(?m)^not searched: (\d+) variables$`)
+)
+
+// readReport takes what a judge told apart.
+func readReport(told string) *report {
+	r := &report{text: told}
+	if at := predictions.FindStringIndex(told); at != nil {
+		r.text, r.predictions = told[:at[0]], told[at[0]:]
+	}
+	r.races, r.predicted = racesOf(r.text), racesOf(r.predictions)
+	for i := range r.predicted {
+		a := r.predicted[i].Accesses
+		r.predicted[i].Order = fmt.Sprintf("in another order: %s stops before event %d, %s goes on to event %d",
+			a[0].Goroutine, a[0].Event, a[1].Goroutine, a[1].Event)
+	}
+	if m := notSearched.FindStringSubmatch(r.predictions); m != nil {
+		r.notSearched, _ = strconv.Atoi(m[1])
+	}
+	return r
+}
+
+// racesOf are the races that lines tell of.
+func racesOf(lines string) []race {
 	var races []race
-	for _, m := range line.FindAllStringSubmatch(report, -1) {
-		first, _ := strconv.Atoi(m[5])
-		second, _ := strconv.Atoi(m[9])
-		races = append(races, race{m[1], access{m[2], m[3], m[4], first}, access{m[6], m[7], m[8], second}})
+	for _, m := range raceLine.FindAllStringSubmatch(lines, -1) {
+		r := race{Variable: m[1]}
+		for i := range r.Accesses {
+			of := m[2+4*i:]
+			event, _ := strconv.Atoi(of[3])
+			r.Accesses[i] = access{Kind: of[0], Goroutine: of[1], Place: of[2], Event: event}
+		}
+		races = append(races, r)
 	}
 	return races
 }
 
-// explain writes behind a report which places race, what each goroutine held and had done, who
-// started it, and how it came there.
-func (o *outcome) explain(w io.Writer) {
-	groups(w, o.races)
-	o.tellMore(w, o.races, map[string]bool{})
-}
-
-// tellMore tells of races what is known of their accesses. What was told is told no more.
-func (o *outcome) tellMore(w io.Writer, races []race, told map[string]bool) {
-	holdings(w, races, o.moments, told)
-	starters(w, races, o.summary.Starts, told)
-	o.tellTests(w, races, told)
-	o.tellStacks(w, races, told)
-}
-
-// groups tells which pairs of places race, where many variables do at few of them.
-func groups(w io.Writer, races []race) {
-	count := map[string]int{}
-	var order []string
-	for _, r := range races {
-		a, b := r.First.Kind+" at "+r.First.Place, r.Second.Kind+" at "+r.Second.Place
-		if b < a {
-			a, b = b, a
-		}
-		pair := a + ", " + b
-		if count[pair]++; count[pair] == 1 {
-			order = append(order, pair)
+// all are the races, those of the recorded order first.
+func (r *report) all() []*race {
+	var all []*race
+	for _, races := range [][]race{r.races, r.predicted} {
+		for i := range races {
+			all = append(all, &races[i])
 		}
 	}
-	if len(races) == len(order) {
-		return
-	}
-	fmt.Fprintf(w, "pairs of places: %d\n", len(order))
-	for _, pair := range order {
-		fmt.Fprintf(w, "%6d  %s\n", count[pair], pair)
-	}
+	return all
 }
 
-// events are those of the accesses of races, predicted ones too.
-func (o *outcome) events() map[int]bool {
+// events are those of the accesses.
+func (r *report) events() map[int]bool {
 	events := map[int]bool{}
-	for _, r := range o.all() {
-		events[r.First.Event], events[r.Second.Event] = true, true
+	for _, of := range r.all() {
+		events[of.Accesses[0].Event], events[of.Accesses[1].Event] = true, true
 	}
 	return events
 }
 
-// all are the races of a report, those of the recorded order first.
-func (o *outcome) all() []race { return append(o.races[:len(o.races):len(o.races)], o.predicted...) }
-
-// holdings tells what each of the two of a race held and last synchronized by. Of races at the
-// same places the first is told. What the judge tells of a trace has no lock that the trace leaves out.
-func holdings(w io.Writer, races []race, moments map[int]trace.Moment, told map[string]bool) {
-	var leftOut []string
-	for _, r := range races {
-		lines, places := "", ""
-		for _, a := range []access{r.First, r.Second} {
+// learn adds what is known of the accesses: of each its moment, and by the numbers of goroutines their labels, which are the tests
+// that they belong to.
+func (r *report) learn(moments map[int]trace.Moment, labels []string, stack func(number uint32) []translate.Call) {
+	for _, of := range r.all() {
+		for i := range of.Accesses {
+			a := &of.Accesses[i]
 			if m, there := moments[a.Event]; there {
-				lines += fmt.Sprintf("%s's %s of %s%s: %s\n", a.Goroutine, a.Kind, r.Variable, forChange(m), m)
-				places += a.Kind + a.Place + m.String()
-			}
-		}
-		if told[places] {
-			continue
-		}
-		told[places] = true
-		io.WriteString(w, lines)
-		for _, a := range []access{r.First, r.Second} {
-			for _, lock := range moments[a.Event].LeftOut() {
-				if !told["lock "+lock] {
-					told["lock "+lock] = true
-					leftOut = append(leftOut, lock)
+				a.Change, a.Behind, a.leftOut, a.Stack = m.Change, m.String(), m.LeftOut(), stack(m.Stack)
+				if int(m.Goroutine) < len(labels) {
+					a.Test = labels[m.Goroutine]
 				}
 			}
-		}
-	}
-	if len(leftOut) > 0 {
-		fmt.Fprintf(w, "not in the trace, since one goroutine alone used each: %s\n", strings.Join(leftOut, ", "))
-	}
-}
-
-// forChange says of a read that the program changes there what is read.
-func forChange(m trace.Moment) string {
-	if m.Change {
-		return " for a change"
-	}
-	return ""
-}
-
-// starters tells where the goroutines of the races were started.
-func starters(w io.Writer, races []race, starts map[string][]trace.Start, told map[string]bool) {
-	for _, r := range races {
-		for _, a := range []access{r.First, r.Second} {
-			s := lastBefore(starts[a.Goroutine], a.Event)
-			if s == nil {
-				continue
-			}
-			line := fmt.Sprintf("%s was started by %s at %s", a.Goroutine, s.By, s.Place)
-			switch {
-			case s.By == "":
-				line = fmt.Sprintf("%s was started at %s, in an earlier segment", a.Goroutine, s.Place)
-			case s.Place == "":
-				line = fmt.Sprintf("%s was started by code that isn't recorded, on behalf of %s", a.Goroutine, s.By)
-			}
-			if !told[line] {
-				told[line] = true
-				fmt.Fprintln(w, line)
+			if s := lastBefore(r.summary.Starts[a.Goroutine], a.Event); s != nil {
+				a.Started = &started{s.By, s.Place, stack(s.Stack)}
 			}
 		}
 	}
@@ -165,9 +136,30 @@ func lastBefore(starts []trace.Start, event int) *trace.Start {
 	return nil
 }
 
-// tell writes where the trace is cut off.
-func tell(w io.Writer, s *trace.Summary) {
-	if s.Cut != "" {
-		fmt.Fprintf(w, "gorec: the trace is cut off after %d events: %s\n", s.Events, s.Cut)
+// places are where a race is, whichever access came first.
+func (r *race) places() string {
+	a, b := r.Accesses[0].Place, r.Accesses[1].Place
+	if b < a {
+		a, b = b, a
 	}
+	return a + " " + b
+}
+
+// key is by what it is known that a race was told: where it is, and whether it was predicted.
+func (r *race) key() string {
+	if r.Order != "" {
+		return "predicted " + r.places()
+	}
+	return r.places()
+}
+
+// tests are those that the accesses of a race belong to.
+func (r *race) tests() []string {
+	var tests []string
+	for _, a := range r.Accesses {
+		if a.Test != "" && (len(tests) == 0 || tests[0] != a.Test) {
+			tests = append(tests, a.Test)
+		}
+	}
+	return tests
 }

@@ -3,8 +3,8 @@ package main
 import (
 	"debug/buildinfo"
 	"flag"
-	"fmt"
 	"os"
+	"os/exec"
 	"path/filepath"
 	"strings"
 
@@ -12,93 +12,45 @@ import (
 )
 
 var runCommand = command{
-	name: "run", takesWords: true,
+	name:  "run",
 	words: "[flags] PACKAGE [ARGUMENTS]",
 	about: "runs a program, and has its trace judged",
 	more: `The package may be named by its files. What follows it goes to the program. Other flags are those of go build.
 ` + statuses,
-	prepare: func(flags *flag.FlagSet) func(*process.Keeper, []string) (int, error) {
+	topics: []string{"build"},
+	prepare: func(own *flag.FlagSet) func(*process.Keeper, *words) (int, error) {
 		var r recording
-		r.define(flags)
-		r.defineJSON(flags)
-		return func(k *process.Keeper, args []string) (int, error) {
-			p := &wordParser{command: "run", own: flags, help: &goHelp{topics: []string{"build"}}, args: args}
-			rest, err := p.parse()
-			switch {
-			case err != nil:
-				return 0, err
-			case len(rest) == 0:
-				return 0, noPackage("run")
-			}
-			return r.run(k, &p.flags, rest)
-		}
+		r.define(own)
+		r.defineJSON(own)
+		return r.run
 	},
 }
 
 // run builds a program, records runs of it, and has them judged.
-func (r *recording) run(k *process.Keeper, flags *goFlags, args []string) (int, error) {
+func (r *recording) run(k *process.Keeper, w *words) (int, error) {
+	if len(w.rest) == 0 {
+		return 0, errNoPackage
+	}
 	s, err := r.begin(k)
 	if err != nil {
 		return 0, err
 	}
-	defer s.end()
-	b, err := newBuilder(k, flags, s.folder.path)
+	b, err := newBuilder(k, w.flags)
 	if err != nil {
 		return 0, err
 	}
-	n := packageWords(args)
-	file, err := b.program(args[:n])
+	n := packageWords(w.rest)
+	file, err := b.program(w.rest[:n])
 	if err != nil {
 		return 0, err
 	}
-	path := importPathOf(file)
-	t := &target{name: fileName(path, false), file: file, words: args[n:], input: true, log: newHookLog}
-	if strings.HasSuffix(args[0], ".go") {
-		path = nameOfFiles(args[0])
-		t.name = path
+	s.file, s.words = file, w.rest[n:]
+	s.isCalled(importPathOf(file, false))
+	if strings.HasSuffix(w.rest[0], ".go") {
+		s.path = nameOfFiles(w.rest[0])
+		s.name = s.path
 	}
-	return s.runProgram(t, path)
-}
-
-// nameOfFiles is that of a program that was named by its files, of which this is the first.
-func nameOfFiles(file string) string {
-	name := strings.TrimSuffix(filepath.Base(file), ".go")
-	if dir, err := filepath.Abs(filepath.Dir(file)); err == nil {
-		name = filepath.Base(dir) + "_" + name
-	}
-	return name
-}
-
-// importPathOf is that of a program that was built.
-func importPathOf(file string) string {
-	if info, err := buildinfo.ReadFile(file); err == nil && info.Path != "" {
-		return info.Path
-	}
-	return filepath.Base(file)
-}
-
-// runProgram runs a program that was built.
-func (s *session) runProgram(t *target, importPath string) (int, error) {
-	if s.keeper.Interrupted() {
-		return 0, errInterrupted
-	}
-	c := &console{own: true, out: os.Stdout, notes: os.Stderr}
-	if s.json {
-		e := newEvents(os.Stdout, importPath)
-		c = &console{out: e, notes: e}
-		defer e.Close()
-		o, err := s.repeat(t, c)
-		if err != nil {
-			return 0, err
-		}
-		e.verdict(o)
-		return o.status, nil
-	}
-	o, err := s.repeat(t, c)
-	if err != nil {
-		return 0, err
-	}
-	return o.status, nil
+	return s.runProgram()
 }
 
 // packageWords is how many words name the program: one, or several files.
@@ -110,4 +62,41 @@ func packageWords(args []string) int {
 	return n
 }
 
-var errInterrupted = fmt.Errorf("interrupted before anything was run")
+// nameOfFiles is that of a program that was named by its files, of which this is the first.
+func nameOfFiles(file string) string {
+	name := strings.TrimSuffix(filepath.Base(file), ".go")
+	if dir, err := filepath.Abs(filepath.Dir(file)); err == nil {
+		name = filepath.Base(dir) + "_" + name
+	}
+	return name
+}
+
+// importPathOf is that of a program that was built. Tests of Go before 1.24 don't tell it, but run in the folder of their package.
+func importPathOf(file string, isTest bool) string {
+	if info, err := buildinfo.ReadFile(file); err == nil && info.Path != "" {
+		return strings.TrimSuffix(info.Path, ".test")
+	}
+	if isTest {
+		if path, err := exec.Command("go", "list", "-find").Output(); err == nil {
+			return strings.TrimSpace(string(path))
+		}
+	}
+	return strings.TrimSuffix(filepath.Base(file), ".test")
+}
+
+// runProgram runs a program that was built.
+func (s *session) runProgram() (int, error) {
+	events := newEvents(os.Stdout, s.path)
+	if s.json {
+		s.out = &lines{to: events.output}
+		s.notes, s.piped = s.out, &lines{to: events.output}
+	}
+	r, err := s.repeat()
+	if err != nil {
+		return 0, err
+	}
+	if s.json {
+		events.end(r)
+	}
+	return r.Status, nil
+}

@@ -1,8 +1,7 @@
 package main
 
 import (
-	"bytes"
-	"errors"
+	"encoding/json"
 	"flag"
 	"fmt"
 	"io"
@@ -10,136 +9,114 @@ import (
 	"os/exec"
 	"path/filepath"
 	"regexp"
+	"sort"
 	"strings"
 
 	"gorace.local/recorder/internal/process"
 )
 
 var testCommand = command{
-	name: "test", takesWords: true,
+	name:  "test",
 	words: "[flags] [flags of go test] [PACKAGES] [flags of go test and of the tests]",
 	about: "runs go test, and has the traces of the tests judged",
 	more: `A package with data races is reported as one that fails. All words but these flags are go test's: gorec's own stand in
 front of the packages.
 ` + statuses,
-	prepare: func(flags *flag.FlagSet) func(*process.Keeper, []string) (int, error) {
+	topics: []string{"build", "test", "testflag"},
+	isTest: true,
+	prepare: func(own *flag.FlagSet) func(*process.Keeper, *words) (int, error) {
 		var r recording
-		r.define(flags)
-		return func(k *process.Keeper, args []string) (int, error) {
-			p := &wordParser{command: "test", own: flags, help: &goHelp{topics: []string{"build", "test", "testflag"}}, args: args}
-			if err := p.parseTest(); err != nil {
-				return 0, err
-			}
-			return r.test(k, p)
-		}
+		r.define(own)
+		return r.test
 	},
 }
 
 // test has go test run each package's tests by gorec exec, and answers one status for all.
-func (r *recording) test(k *process.Keeper, p *wordParser) (int, error) {
-	if p.has("c") && r.out != "" { // it is go test's -o
-		p.flags.others = append([]string{"-o=" + r.out}, p.flags.others...)
-		r.out = ""
+func (r *recording) test(k *process.Keeper, w *words) (int, error) {
+	for _, word := range w.flags {
+		if word == "-c=true" && r.kept != "" { // -o is go test's
+			w.flags = append(w.flags, "-o="+r.kept)
+			r.kept = ""
+		}
 	}
 	s, err := r.begin(k)
 	if err != nil {
 		return 0, err
 	}
-	defer s.end()
-	b, err := newBuilder(k, &p.flags, s.folder.path)
+	b, err := newBuilder(k, w.flags)
 	if err != nil {
 		return 0, err
 	}
-	words, err := s.execWords(p.own, b.env != nil)
+	verdicts, err := os.Create(filepath.Join(k.Folder, "verdicts"))
 	if err != nil {
 		return 0, err
 	}
-	output, ended, err := s.goTest(b.goCommand([]string{"test", "-exec=" + words}, nil))
+	defer verdicts.Close()
+	words, err := s.execWords(w.own, verdicts.Name(), b.env != nil)
 	if err != nil {
 		return 0, err
 	}
-	verdicts, err := readVerdicts(s.folder.path)
+	status, err := goTest(k, b.goCommand("test", append([]string{"-exec=" + words}, w.rest...)...))
 	if err != nil {
 		return 0, err
 	}
-	return statusOfAll(verdicts, output, ended), nil
+	return statusOfAll(verdicts, status)
 }
 
-// goTest runs go test, which may fail.
-func (s *session) goTest(cmd *exec.Cmd) (output *goTestOutput, ended, err error) {
-	output = &goTestOutput{to: os.Stdout}
-	w, finish, err := pipeTo(&lineEnder{to: output})
+var notBuilt = regexp.MustCompile(`(?:^|"Output":")FAIL(?:\t|\\t).*\[(?:build|setup) failed\]`)
+
+// goTest runs go test, and passes on what it tells. It answers failed where go test did, and unusable where a package wasn't built.
+func goTest(k *process.Keeper, cmd *exec.Cmd) (status int, err error) {
+	w, finish, err := pipeTo(&lines{to: func(line []byte) error {
+		if notBuilt.Match(line) {
+			status = unusable
+		}
+		_, err := os.Stdout.Write(line)
+		return err
+	}})
 	if err != nil {
-		return nil, nil, err
+		return 0, err
 	}
 	cmd.Stdout = w
-	ended = s.keeper.Run(cmd)
+	err = k.Run(cmd, process.Go)
 	finish()
-	var exit *exec.ExitError
-	if ended != nil && !errors.As(ended, &exit) {
-		return nil, nil, ended
+	if cmd.ProcessState == nil {
+		return 0, err
 	}
-	return output, ended, nil
+	if err != nil {
+		status = worse(failed, status)
+	}
+	return status, nil
 }
 
-// A goTestOutput passes the output of go test on, and notes what it tells.
-type goTestOutput struct {
-	to      io.Writer
-	last    []byte // the begin of a line
-	unbuilt bool   // a package
-	races   bool
-}
-
-var (
-	notBuilt = regexp.MustCompile(`(?:^|\n|"Output":")FAIL(?:\t|\\t)[^\n]*\[(?:build|setup) failed\]`)
-	anyRace  = regexp.MustCompile(`(?:^|\n|"Output":")(?:predicted )?race on `)
-)
-
-func (o *goTestOutput) Write(b []byte) (int, error) {
-	o.last = append(o.last, b...)
-	o.unbuilt = o.unbuilt || notBuilt.Match(o.last)
-	o.races = o.races || anyRace.Match(o.last)
-	o.last = append(o.last[:0], o.last[bytes.LastIndexByte(o.last, '\n')+1:]...)
-	return o.to.Write(b)
-}
-
-// statusOfAll is the worst status of packages, which are told of. If go test failed, though no package's tests did, something
-// else was wrong.
-func statusOfAll(verdicts []verdictFile, output *goTestOutput, ended error) int {
+// statusOfAll is the worst status of packages, which are told of in their order, and of go test. If that failed, though no
+// package's tests did, something else was wrong.
+func statusOfAll(verdicts io.Reader, ofGo int) (int, error) {
+	var all []packageVerdict
+	for in := json.NewDecoder(verdicts); in.More(); {
+		var v packageVerdict
+		if err := in.Decode(&v); err != nil {
+			return 0, fmt.Errorf("the verdicts: %w", err)
+		}
+		all = append(all, v)
+	}
+	sort.Slice(all, func(i, j int) bool { return all[i].Package < all[j].Package })
 	status := 0
-	if output.unbuilt {
-		status = unusable
-	}
-	for i := range verdicts {
-		status = worse(status, verdicts[i].Status)
-		if verdicts[i].Status == racing && !output.races {
-			fmt.Print(verdicts[i].Report)
-		}
-		if told := verdicts[i].told(); told != "" {
-			fmt.Fprintf(os.Stderr, "gorec: %s: %s\n", verdicts[i].Package, told)
+	for _, v := range all {
+		status = worse(status, v.Status)
+		fmt.Print(v.Report)
+		if told := v.told(); told != "" {
+			fmt.Fprintf(os.Stderr, "gorec: %s: %s\n", v.Package, told)
 		}
 	}
-	if ended != nil && (status == 0 || status == cutOff) {
-		return unusable
+	if ofGo == failed && (status == 0 || status == cutOff) {
+		return unusable, nil
 	}
-	return status
-}
-
-// has reports whether a flag of the command go is among the words in front of -args.
-func (p *wordParser) has(flag string) bool {
-	for _, word := range p.flags.others {
-		switch name, value, _ := cutFlag(word); name {
-		case "args":
-			return false
-		case flag:
-			return value != "false"
-		}
-	}
-	return false
+	return worse(status, ofGo), nil
 }
 
 // execWords are those by which go test runs tests: gorec exec, with the flags that were given.
-func (s *session) execWords(own *flag.FlagSet, withoutC bool) (string, error) {
+func (s *session) execWords(own *flag.FlagSet, verdicts string, withoutC bool) (string, error) {
 	program, err := os.Executable()
 	if err != nil {
 		return "", err
@@ -148,35 +125,32 @@ func (s *session) execWords(own *flag.FlagSet, withoutC bool) (string, error) {
 	if err != nil {
 		return "", err
 	}
-	words := []string{program, "exec", "-base=" + base, "-verdicts=" + s.folder.path, "-gorace=" + s.judge.command()}
-	if withoutC {
-		words = append(words, "-unset=CGO_ENABLED")
+	words := []string{program, "exec", "-base=" + base, "-verdicts=" + verdicts, "-gorace=" + strings.Join(s.judge.words, " ")}
+	if withoutC { // which the tests' own environment doesn't say
+		words = append([]string{"env", "-u", "CGO_ENABLED"}, words...)
 	}
 	own.Visit(func(f *flag.Flag) {
 		value := f.Value.String()
-		switch f.Name {
-		case "gorace":
-			return
-		case "o", "log":
-			if value, err = s.keptIn(value); err != nil {
-				return
-			}
+		if f.Name == "o" || f.Name == "log" {
+			value, err = keptIn(value)
 		}
-		words = append(words, "-"+f.Name+"="+value)
+		if _, isGo := f.Value.(*goFlag); !isGo && f.Name != "gorace" && err == nil {
+			words = append(words, "-"+f.Name+"="+value)
+		}
 	})
-	if err != nil {
-		return "", err
-	}
 	for i, word := range words {
-		if words[i], err = quoted(word); err != nil {
-			return "", err
+		if err == nil {
+			words[i], err = quoted(word)
 		}
 	}
-	return strings.Join(words, " "), nil
+	return strings.Join(words, " "), err
 }
 
 // keptIn is where traces or logs of packages are kept: in a folder, which is made if need be, unless a file is named as one.
-func (s *session) keptIn(path string) (string, error) {
+func keptIn(path string) (string, error) {
+	if path == "" {
+		return "", nil
+	}
 	path, err := filepath.Abs(path)
 	if err != nil || path == os.DevNull || filepath.Ext(path) != "" && !isFolder(path) {
 		return path, err
@@ -184,11 +158,41 @@ func (s *session) keptIn(path string) (string, error) {
 	return path, os.MkdirAll(path, 0o755)
 }
 
-// command is the judge's, wherever it is called.
-func (j *judge) command() string {
-	words := append([]string(nil), j.words...)
-	if path, err := filepath.Abs(words[0]); err == nil {
-		words[0] = path
+// A packageVerdict is what gorec exec leaves for gorec test.
+type packageVerdict struct {
+	Package string
+	Report  string // where go test doesn't tell it
+	verdict
+}
+
+// leave leaves a verdict for gorec test, behind those of other packages.
+func (s *session) leave(v *packageVerdict) {
+	if s.verdicts == "" {
+		return
 	}
-	return strings.Join(words, " ")
+	f, err := os.OpenFile(s.verdicts, os.O_APPEND|os.O_WRONLY, 0)
+	if err == nil {
+		defer f.Close()
+		err = json.NewEncoder(f).Encode(v)
+	}
+	if err != nil {
+		fmt.Fprintf(os.Stderr, "gorec: %v\n", err)
+	}
+}
+
+// told says in a line what go test doesn't, "" if that is nothing.
+func (v *packageVerdict) told() string {
+	switch {
+	case v.Status == racing && v.Predicted > 0:
+		return fmt.Sprintf("races: %d, predicted: %d", v.Races, v.Predicted)
+	case v.Status == racing:
+		return fmt.Sprintf("races: %d", v.Races)
+	case v.Status == unusable:
+		return "not judged"
+	case v.Cut != "":
+		return "the trace is cut off: " + v.Cut
+	case v.Status != 0 && v.Status != failed:
+		return fmt.Sprintf("the judge ended with %d", v.Status)
+	}
+	return ""
 }

@@ -7,42 +7,38 @@ import (
 	"os"
 
 	"gorace.local/recorder/internal/process"
-	"gorace.local/recorder/internal/trace"
-	"gorace.local/recorder/wire"
 )
 
 var traceCommand = command{
 	name:  "trace",
 	words: "[flags] LOG PROGRAM",
 	about: "writes the trace of a log, and on standard error where that is cut off",
-	prepare: func(flags *flag.FlagSet) func(*process.Keeper, []string) (int, error) {
-		r := &recording{stacks: true}
-		flags.BoolVar(&r.all, "all", false, "keep what one goroutine alone uses")
-		flags.IntVar(&r.format, "format", 0, "the `version` of the trace, 1 or 2")
-		flags.BoolVar(&r.predict, "predict", false, "write what gorace predict needs")
-		flags.IntVar(&r.records, "records", mostRecords, "up to `N` records of the log")
-		return func(_ *process.Keeper, args []string) (int, error) {
-			if len(args) != 2 {
-				return 0, &usageError{"trace", errors.New("a log and its program have to be named")}
+	prepare: func(own *flag.FlagSet) func(*process.Keeper, *words) (int, error) {
+		r := &recording{runs: 1}
+		own.BoolVar(&r.all, "all", false, "keep what one goroutine alone uses")
+		own.IntVar(&r.format, "format", 0, "the `version` of the trace, 1 or 2")
+		own.BoolVar(&r.predict, "predict", false, "write what gorace predict needs")
+		own.IntVar(&r.records, "records", mostRecords, "up to `N` records of the log")
+		return func(_ *process.Keeper, w *words) (int, error) {
+			if len(w.rest) != 2 {
+				return 0, errors.New("a log and its program have to be named")
 			}
-			if r.format < 0 || r.format > wire.Newest {
-				return 0, fmt.Errorf("-format %d: a trace has version 1 or 2", r.format)
+			if err := r.check(); err != nil {
+				return 0, err
 			}
-			if r.predict && r.format == 0 {
-				r.format = wire.Newest
-			}
-			return 0, r.print(args[0], args[1])
+			return 0, r.print(w.rest[0], w.rest[1])
 		}
 	},
 }
 
 // print writes the trace of a log to standard output, and what is to be known of it to standard error.
-func (r *recording) print(path, program string) error {
-	l, err := openHookLog(&session{recording: r}, program, path)
+func (r *recording) print(path, file string) error {
+	r.log = path // is kept
+	l, err := (&session{recording: r, file: file}).openLog(path)
 	if err != nil {
 		return err
 	}
-	defer l.close()
+	defer l.drop()
 	for n := 1; n > 0 || !l.reader.Whole(); {
 		if n, err = l.read(); err != nil {
 			return err
@@ -54,15 +50,16 @@ func (r *recording) print(path, program string) error {
 			break
 		}
 	}
-	p := l.part(!l.isReady())
-	summary, err := trace.Write(p.records, p.table, p.options, os.Stdout)
+	s := l.segment(!l.isReady())
+	l.name(s)
+	summary, err := s.Trace.Write(os.Stdout)
 	if err != nil {
 		return err
 	}
 	if summary.Cut == "" {
-		summary.Cut = p.end + p.cut
+		summary.Cut = s.End + s.Cut
 	}
 	fmt.Fprintln(os.Stderr, "gorec: "+summary.Counts())
-	tell(os.Stderr, summary)
+	tellCut(os.Stderr, summary.Events, summary.Cut)
 	return nil
 }

@@ -2,7 +2,6 @@ package main
 
 import (
 	"fmt"
-	"io"
 	"os"
 	"path/filepath"
 	"regexp"
@@ -11,50 +10,28 @@ import (
 	"time"
 )
 
-// A traceFile is where a trace is written. Unless -o names it, it has another name until it is
-// known to be kept.
-type traceFile struct {
-	file        *os.File
-	path, final string
-}
-
 // keptTraces is how many traces the cache folder has at most.
 const keptTraces = 10
 
-// createTrace makes the file before the run, which may be long. Without -o it is one in the
-// user's cache folder, or, where there is none, a temporary one.
-func (s *session) createTrace(t *target) (*traceFile, error) {
-	if s.out == os.DevNull { // which the judge can't read it from
-		return temporaryTrace(t)
-	}
-	if s.out != "" && t.folder == "" && !isFolder(s.out) {
-		f, err := os.Create(s.out)
-		return &traceFile{f, s.out, s.out}, err
-	}
-	folder := t.folder
+// keptAs is the file in which a trace is kept, "" for none. One that -o names is made before the run, which may be long.
+func (s *session) keptAs() (string, error) {
+	folder := s.kept
 	switch {
-	case folder != "":
-	case s.out != "":
-		folder = s.out
-	default:
+	case s.kept == os.DevNull:
+		return "", nil
+	case s.kept == "":
 		folder = cacheFolder()
-	}
-	if folder != "" {
-		f, err := os.CreateTemp(folder, ".gorec-*")
-		if err == nil {
-			return &traceFile{f, f.Name(), filepath.Join(folder, t.name+".gotrace")}, nil
-		} else if s.out != "" {
-			return nil, err
+	case !isFolder(s.kept):
+		f, err := os.Create(s.kept)
+		if err != nil {
+			return "", err
 		}
+		return s.kept, f.Close()
 	}
-	return temporaryTrace(t)
-}
-
-// temporaryTrace makes the file of a trace that isn't kept.
-func temporaryTrace(t *target) (*traceFile, error) {
-	path := t.scratch() + ".gotrace"
-	f, err := os.Create(path)
-	return &traceFile{f, path, ""}, err
+	if folder == "" {
+		return "", nil
+	}
+	return filepath.Join(folder, s.name+".gotrace"), nil
 }
 
 // isFolder says whether a folder has this path.
@@ -76,41 +53,27 @@ func cacheFolder() string {
 	return folder
 }
 
-// keep gives a trace its name, and answers it. Of several packages those that are clean aren't
-// kept.
-func (f *traceFile) keep(status int, alone bool) string {
-	if f.final == "" || status == 0 && !alone {
-		return ""
-	}
-	if f.path != f.final {
-		if os.Rename(f.path, f.final) != nil {
-			return ""
-		}
-		f.path = f.final
-		prune(filepath.Dir(f.final))
-	}
-	return f.final
-}
-
-// drop removes a trace that isn't kept.
-func (f *traceFile) drop() {
-	f.file.Close()
-	if f.path != f.final {
-		os.Remove(f.path)
-	}
-}
-
-// prune removes all but the newest traces of the cache folder, and what a killed gorec left.
-func prune(folder string) {
-	if folder != cacheFolder() {
+// keep keeps the trace of a run. That of tests which are clean is kept only in a file that -o names.
+func (r *run) keep(as string) {
+	if as == "" || r.Status == 0 && r.isTest && as != r.kept {
 		return
 	}
-	left, _ := filepath.Glob(filepath.Join(folder, ".gorec-*"))
-	for _, path := range left {
-		if st, err := os.Stat(path); err == nil && time.Since(st.ModTime()) > 24*time.Hour {
-			os.Remove(path)
-		}
+	text, err := os.ReadFile(r.trace)
+	if err == nil {
+		err = os.WriteFile(as, text, 0o644)
 	}
+	if err != nil {
+		fmt.Fprintf(r.notes, "gorec: %v\n", err)
+		return
+	}
+	r.Trace = as
+	if r.kept == "" {
+		prune(filepath.Dir(as))
+	}
+}
+
+// prune removes all but the newest traces of the cache folder.
+func prune(folder string) {
 	traces, _ := filepath.Glob(filepath.Join(folder, "*.gotrace"))
 	age := func(path string) time.Time {
 		st, err := os.Stat(path)
@@ -125,33 +88,27 @@ func prune(folder string) {
 	}
 }
 
-// inFileName has a/b and a_b differ.
-var inFileName = strings.NewReplacer("_", "__", "/", "_")
-
-// fileName is that of a program's files.
-func fileName(importPath string, tests bool) string {
-	name := inFileName.Replace(importPath)
-	if tests {
-		name += ".test"
-	}
-	return name
-}
-
 // tellTrace names the trace, and how a race is drawn.
-func (s *session) tellTrace(w io.Writer, o *outcome) {
+func (r *run) tellTrace() {
 	switch {
-	case o.status == 0:
-	case o.trace == "":
-		fmt.Fprintln(w, "gorec: the trace isn't kept; -o FILE keeps it")
-	case len(o.all()) > 0:
-		if len(o.races) > 0 {
-			fmt.Fprintf(w, "gorec: to see why: %s draw %s < %s\n", s.judge.shown, o.races[0].Variable, shown(o.trace))
-		}
-		if len(o.predicted) > 0 {
-			fmt.Fprintf(w, "gorec: to see the other order: %s\n", s.drawsPredicted(o.predicted[0].Variable, shown(o.trace)))
-		}
+	case r.Status == 0:
+	case r.Trace == "":
+		fmt.Fprintln(r.out, "gorec: the trace isn't kept; -o FILE keeps it")
+	case r.first == nil:
+		fmt.Fprintf(r.out, "gorec: the trace: %s\n", shown(r.Trace))
 	default:
-		fmt.Fprintf(w, "gorec: the trace: %s\n", shown(o.trace))
+		trace, judge := shown(r.Trace), r.judge.shown
+		if len(r.first.races) > 0 {
+			fmt.Fprintf(r.out, "gorec: to see why: %s draw %s < %s\n", judge, r.first.races[0].Variable, trace)
+		}
+		if len(r.first.predicted) > 0 {
+			of := r.first.predicted[0].Variable
+			words := of
+			if r.turned {
+				words += " " + turnedFlag
+			}
+			fmt.Fprintf(r.out, "gorec: to see the other order: %s predict %s < %s | %s draw %s\n", judge, words, trace, judge, of)
+		}
 	}
 }
 

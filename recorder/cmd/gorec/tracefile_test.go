@@ -6,52 +6,41 @@ import (
 	"testing"
 )
 
-// TestTraceOfOneInFolder: where -o is a folder, the trace of one program is a file in it.
-func TestTraceOfOneInFolder(t *testing.T) {
+// TestKept: where -o is a folder, the trace is a file in it, and any other -o is a file; of tests the folder has only traces that
+// aren't clean. With -o /dev/null none is kept.
+func TestKept(t *testing.T) {
 	folder := t.TempDir()
-	s := &session{recording: &recording{out: folder}}
-	f, err := s.createTrace(&target{name: "example.com_shop.test"})
-	if err != nil {
+	file := filepath.Join(folder, "shop.gotrace")
+	inFolder := filepath.Join(folder, "example.com_shop.gotrace")
+	trace := filepath.Join(t.TempDir(), "trace")
+	if err := os.WriteFile(trace, []byte("gotrace 1\n"), 0o644); err != nil {
 		t.Fatal(err)
 	}
-	defer f.file.Close()
-	want := filepath.Join(folder, "example.com_shop.test.gotrace")
-	if got := f.keep(racing, true); got != want {
-		t.Errorf("kept in %q, want %q", got, want)
-	}
-	if _, err := os.Stat(want); err != nil {
-		t.Error(err)
-	}
-}
-
-// TestTraceInFile: any other -o is a file.
-func TestTraceInFile(t *testing.T) {
-	want := filepath.Join(t.TempDir(), "shop.gotrace")
-	s := &session{recording: &recording{out: want}}
-	f, err := s.createTrace(&target{name: "example.com_shop"})
-	if err != nil {
-		t.Fatal(err)
-	}
-	defer f.file.Close()
-	if got := f.keep(0, true); got != want {
-		t.Errorf("kept in %q, want %q", got, want)
-	}
-}
-
-// TestNoTrace: with -o /dev/null the judge has a trace, which isn't kept.
-func TestNoTrace(t *testing.T) {
-	program := filepath.Join(t.TempDir(), "program")
-	s := &session{recording: &recording{out: os.DevNull}}
-	f, err := s.createTrace(&target{name: "example.com_shop", file: program})
-	if err != nil {
-		t.Fatal(err)
-	}
-	if f.path != program+".gotrace" || f.keep(racing, true) != "" {
-		t.Errorf("%+v", f)
-	}
-	f.drop()
-	if _, err := os.Stat(f.path); err == nil {
-		t.Error("the trace is left")
+	for _, c := range []struct {
+		named  string
+		isTest bool
+		status int
+		want   string
+	}{
+		{folder, false, 0, inFolder},
+		{folder, true, racing, inFolder},
+		{folder, true, 0, ""},
+		{file, false, 0, file},
+		{file, true, 0, file},
+		{os.DevNull, false, racing, ""},
+	} {
+		s := &session{recording: &recording{kept: c.named}, name: "example.com_shop", isTest: c.isTest}
+		as, err := s.keptAs()
+		if err != nil {
+			t.Fatal(err)
+		}
+		r := &run{session: s, trace: trace, verdict: verdict{Status: c.status}}
+		r.keep(as)
+		text, err := os.ReadFile(c.want)
+		if r.Trace != c.want || c.want != "" && (err != nil || string(text) != "gotrace 1\n") {
+			t.Errorf("%+v: kept in %q, %v", c, r.Trace, err)
+		}
+		os.Remove(c.want)
 	}
 }
 
@@ -59,13 +48,15 @@ func TestNoTrace(t *testing.T) {
 func TestFileName(t *testing.T) {
 	paths := map[string]string{}
 	for _, path := range []string{"m", "m/a_b", "m/a/b", "m_a/b", "m_a_b", "m/a__b"} {
-		name := fileName(path, true)
-		if before, there := paths[name]; there {
-			t.Errorf("%s and %s are both %s", before, path, name)
+		p := session{isTest: true}
+		p.isCalled(path)
+		if before, there := paths[p.name]; there {
+			t.Errorf("%s and %s are both %s", before, path, p.name)
 		}
-		paths[name] = path
+		paths[p.name] = path
 	}
-	if name := fileName("example.com/shop", true); name != "example.com_shop.test" {
-		t.Error(name)
+	p := session{isTest: true}
+	if p.isCalled("example.com/shop"); p.name != "example.com_shop.test" {
+		t.Error(p.name)
 	}
 }

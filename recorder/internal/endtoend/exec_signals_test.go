@@ -65,12 +65,12 @@ func TestWaits(t *testing.T) {
 }
 `
 
-// TestTestEnds: tests end with gorec test, by ^C with a verdict, and where it is killed without one.
+// TestTestEnds: tests end with gorec test, by a signal with a verdict, and where it is killed without one.
 func TestTestEnds(t *testing.T) {
 	t.Parallel()
 	dir := t.TempDir()
 	writeFiles(t, dir, map[string]string{"go.mod": "module example.com/waits\n\ngo 1.19\n", "waits_test.go": waitingTest})
-	for _, signal := range []syscall.Signal{syscall.SIGINT, syscall.SIGKILL} {
+	for _, signal := range []syscall.Signal{syscall.SIGINT, syscall.SIGTERM, syscall.SIGKILL} {
 		told := filepath.Join(dir, signal.String())
 		var out strings.Builder
 		cmd := exec.Command(gorec, "test", "-gorace", finder(t, "n"), ".")
@@ -88,7 +88,7 @@ func TestTestEnds(t *testing.T) {
 			t.Errorf("%v: the tests run on", signal)
 			syscall.Kill(pid, syscall.SIGKILL)
 		}
-		if signal == syscall.SIGINT && (cmd.ProcessState.ExitCode() != 66 || !strings.Contains(out.String(), "race on n: ")) {
+		if signal != syscall.SIGKILL && (cmd.ProcessState.ExitCode() != 66 || !strings.Contains(out.String(), "race on n: ")) {
 			t.Errorf("status %d\n%s", cmd.ProcessState.ExitCode(), out.String())
 		}
 	}

@@ -8,9 +8,7 @@ import (
 	"strings"
 	"testing"
 
-	"gorace.local/recorder/internal/sites"
 	"gorace.local/recorder/internal/trace"
-	"gorace.local/recorder/wire"
 )
 
 // Names of goroutines that have ended are lent to others, where all that the first did comes
@@ -21,7 +19,7 @@ import (
 // A walk makes the records of a random run.
 type walk struct {
 	*rand.Rand
-	records []wire.Record
+	records []trace.Record
 	alive   []uint32
 	started uint32
 	objects uint32
@@ -42,13 +40,20 @@ const (
 	walkAlive                                                             = 4
 )
 
-// walkTable has a site for each kind of object.
-func walkTable() sites.Table {
-	table := *sites.New()
+// recording is that of a walk. There is a site for each kind of object.
+func (w *walk) recording() *trace.Recording {
+	r := &trace.Recording{Records: w.records, Sites: []trace.Site{{Place: "-"}}}
 	for _, name := range []string{"x", "mu", "rw", "c", "d", "once", "o"} {
-		table = append(table, sites.Site{Place: name + ".go:1", Name: name})
+		r.Sites = append(r.Sites, trace.Site{Place: name + ".go:1", Name: name})
 	}
-	return table
+	r.Objects = []trace.Object{
+		{}, {Kind: trace.Variable, Site: walkVar}, {Kind: trace.Mutex, Site: walkMutex}, {Kind: trace.RWMutex, Site: walkRW},
+		{Kind: trace.Channel, Site: walkBuffer, Capacity: walkCapacity}, {Kind: trace.Channel, Site: walkMeet}, {Kind: trace.Once, Site: walkOnce},
+	}
+	for n := uint32(walkOnce); n < w.objects; n++ {
+		r.Objects = append(r.Objects, trace.Object{Kind: trace.Order, Site: walkSites})
+	}
+	return r
 }
 
 // newWalk makes a run of so many steps.
@@ -57,11 +62,6 @@ func newWalk(seed int64, steps int) *walk {
 		Rand: rand.New(rand.NewSource(seed)), alive: []uint32{0}, holder: map[uint32]uint32{}, readers: map[uint32][]uint32{},
 		queued: map[uint32]int{}, sent: map[uint32]uint64{}, got: map[uint32]uint64{}, closed: map[uint32]bool{},
 	}
-	w.records = []wire.Record{
-		{Op: wire.DeclareVar, Object: walkVar, Site: walkVar}, {Op: wire.DeclareLock, Object: walkMutex, Site: walkMutex},
-		{Op: wire.DeclareLock, Object: walkRW, Site: walkRW, Kind: 1}, {Op: wire.DeclareChan, Object: walkBuffer, Site: walkBuffer, Value: walkCapacity},
-		{Op: wire.DeclareChan, Object: walkMeet, Site: walkMeet}, {Op: wire.DeclareOnce, Object: walkOnce, Site: walkOnce},
-	}
 	w.objects = walkOnce
 	for i := 0; i < steps; i++ {
 		w.step()
@@ -69,12 +69,12 @@ func newWalk(seed int64, steps int) *walk {
 	return w
 }
 
-func (w *walk) add(op wire.Op, g, object uint32, value uint64) {
+func (w *walk) add(op trace.Op, g, object uint32, value uint64) {
 	site := object
 	if site == 0 || site >= walkSites {
 		site = walkSites
 	}
-	w.records = append(w.records, wire.Record{Op: op, Goroutine: g, Object: object, Site: site, Value: value})
+	w.records = append(w.records, trace.Record{Op: op, Goroutine: g, Object: object, Site: site, Value: value})
 }
 
 // step does something that can be done now.
@@ -88,26 +88,26 @@ func (w *walk) step() {
 		}
 		for _, o := range w.ended { // as a Wait, which may be forgotten
 			if w.Intn(5) > 0 {
-				w.add(wire.Acquire, g, o, 0)
+				w.add(trace.Acquire, g, o, 0)
 			}
 		}
 		w.started++
-		w.records = append(w.records, wire.Record{Op: wire.Go, Goroutine: g, Other: w.started, Site: walkSites})
+		w.records = append(w.records, trace.Record{Op: trace.Go, Goroutine: g, Other: w.started, Site: walkSites})
 		w.alive = append(w.alive, w.started)
-		w.add(wire.Write, w.started, walkVar, 0)
+		w.add(trace.Write, w.started, walkVar, 0)
 	case 2, 3:
 		if g != 0 && !w.holds(g) {
 			if w.Intn(3) > 0 {
 				w.release(g) // as a Done
 				w.ended = append(w.ended, w.objects)
 			}
-			w.add(wire.Exit, g, 0, 0)
+			w.add(trace.Exit, g, 0, 0)
 			w.alive = append(w.alive[:at], w.alive[at+1:]...)
 		}
 	case 4:
-		w.add(wire.Read, g, walkVar, 0)
+		w.add(trace.Read, g, walkVar, 0)
 	case 5:
-		w.add(wire.Write, g, walkVar, 0)
+		w.add(trace.Write, g, walkVar, 0)
 	case 6:
 		w.lock(g, walkMutex)
 	case 7:
@@ -150,10 +150,10 @@ func count(list []uint32, g uint32) int {
 func (w *walk) lock(g, lock uint32) {
 	switch {
 	case w.holder[lock] == g+1:
-		w.add(wire.Unlock, g, lock, 0)
+		w.add(trace.Unlock, g, lock, 0)
 		w.holder[lock] = 0
 	case w.holder[lock] == 0 && len(w.readers[lock]) == 0:
-		w.add(wire.Lock, g, lock, 0)
+		w.add(trace.Lock, g, lock, 0)
 		w.holder[lock] = g + 1
 	}
 }
@@ -162,13 +162,13 @@ func (w *walk) readLock(g uint32) {
 	list := w.readers[walkRW]
 	for i, h := range list {
 		if h == g {
-			w.add(wire.ReadUnlock, g, walkRW, 0)
+			w.add(trace.ReadUnlock, g, walkRW, 0)
 			w.readers[walkRW] = append(list[:i:i], list[i+1:]...)
 			return
 		}
 	}
 	if w.holder[walkRW] == 0 {
-		w.add(wire.ReadLock, g, walkRW, 0)
+		w.add(trace.ReadLock, g, walkRW, 0)
 		w.readers[walkRW] = append(list, g)
 	}
 }
@@ -177,44 +177,44 @@ func (w *walk) buffer(g uint32) {
 	if w.queued[walkBuffer] == walkCapacity || w.queued[walkBuffer] > 0 && w.Intn(2) == 0 {
 		w.got[walkBuffer]++
 		w.queued[walkBuffer]--
-		w.add(wire.Receive, g, walkBuffer, w.got[walkBuffer])
+		w.add(trace.Receive, g, walkBuffer, w.got[walkBuffer])
 		return
 	}
 	w.sent[walkBuffer]++
 	w.queued[walkBuffer]++
-	w.add(wire.Send, g, walkBuffer, w.sent[walkBuffer])
+	w.add(trace.Send, g, walkBuffer, w.sent[walkBuffer])
 }
 
 func (w *walk) meet(g uint32) {
 	other := w.alive[w.Intn(len(w.alive))]
 	switch {
 	case w.closed[walkMeet]:
-		w.add(wire.ReceiveClosed, g, walkMeet, 0)
+		w.add(trace.ReceiveClosed, g, walkMeet, 0)
 	case w.Intn(40) == 0:
 		w.closed[walkMeet] = true
-		w.add(wire.Close, g, walkMeet, 0)
+		w.add(trace.Close, g, walkMeet, 0)
 	case other != g:
 		w.sent[walkMeet]++
-		w.records = append(w.records, wire.Record{
-			Op: wire.Meet, Goroutine: g, Other: other, Object: walkMeet, Site: walkMeet, OtherSite: walkMeet, Value: w.sent[walkMeet],
+		w.records = append(w.records, trace.Record{
+			Op: trace.Meet, Goroutine: g, Other: other, Object: walkMeet, Site: walkMeet, OtherSite: walkMeet, Value: w.sent[walkMeet],
 		})
 	}
 }
 
 func (w *walk) once(g uint32) {
 	if w.done {
-		w.add(wire.OnceDone, g, walkOnce, 0)
+		w.add(trace.OnceDone, g, walkOnce, 0)
 		return
 	}
 	w.done = true
-	w.add(wire.OnceBegin, g, walkOnce, 0)
-	w.add(wire.Write, g, walkVar, 0)
-	w.add(wire.OnceEnd, g, walkOnce, 0)
+	w.add(trace.OnceBegin, g, walkOnce, 0)
+	w.add(trace.Write, g, walkVar, 0)
+	w.add(trace.OnceEnd, g, walkOnce, 0)
 }
 
 func (w *walk) order(g uint32) {
 	if len(w.orders) > 0 && w.Intn(3) > 0 {
-		w.add(wire.Acquire, g, w.orders[w.Intn(len(w.orders))], 0)
+		w.add(trace.Acquire, g, w.orders[w.Intn(len(w.orders))], 0)
 		return
 	}
 	w.release(g)
@@ -223,7 +223,7 @@ func (w *walk) order(g uint32) {
 func (w *walk) release(g uint32) {
 	w.objects++
 	w.orders = append(w.orders, w.objects)
-	w.add(wire.Release, g, w.objects, 0)
+	w.add(trace.Release, g, w.objects, 0)
 }
 
 // write writes the trace of a walk with at most so many names of goroutines.
@@ -234,7 +234,7 @@ func (w *walk) write(t *testing.T, path string, names int) *trace.Summary {
 		t.Fatal(err)
 	}
 	defer f.Close()
-	s, err := trace.Write(w.records, walkTable(), trace.Options{Version: 1, All: true, Goroutines: names}, f)
+	s, err := trace.New(w.recording(), trace.Options{Version: 1, All: true, Goroutines: names}).Write(f)
 	if err != nil {
 		t.Fatal(err)
 	}

@@ -10,7 +10,7 @@ import (
 )
 
 // finder is a judge that tells a race on a variable where a trace has it: between a write, after which its goroutine
-// starts no other, and the next access of another goroutine.
+// starts no other, and the next access of another goroutine. As long as variables have no names, it tells one on any of them.
 func finder(t *testing.T, variable string) string {
 	t.Helper()
 	path := filepath.Join(t.TempDir(), "finder")
@@ -19,6 +19,7 @@ exec awk -v x=` + variable + ` '
 NR == 1 || NF < 3 || $1 ~ /^(goroutine|var|chan|mutex|rwmutex|once)$/ { next }
 { event++ }
 $1 == "go" && $2 == who { who = "" }
+$3 ~ /^_/ { $3 = x }
 $1 == "write" && $3 == x && !who { who = $2; first = "write by " $2 " at " $5 " (event " event ")"; next }
 ($1 == "read" || $1 == "write") && $3 == x && who && $2 != who && !told {
 	print "race on " x ": " first ", " $1 " by " $2 " at " $5 " (event " event ")"; print "races: 1"; told = 1

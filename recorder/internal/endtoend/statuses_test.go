@@ -55,14 +55,27 @@ func TestStatuses(t *testing.T) {
 	}
 }
 
+// TestUnjudged: a trace that -o names is there though it couldn't be judged.
+func TestUnjudged(t *testing.T) {
+	t.Parallel()
+	trace := filepath.Join(t.TempDir(), "run.gotrace")
+	judge := judgeSaying(t, filepath.Join(t.TempDir(), "silent"), "races, or none", 0)
+	out, errs, status := runTool(t, "run", "-o", trace, "-gorace", judge, "./runs")
+	text, err := os.ReadFile(trace)
+	if status != 3 || err != nil || !strings.HasPrefix(string(text), "gotrace 1\n") {
+		t.Errorf("status %d, %v\n%s%s%s", status, err, text, out, errs)
+	}
+}
+
 // TestRacesBeforeAFailure: what is found in a run's first part counts, though a later one can't be
-// judged.
+// judged. The first is judged twice: without names, and with them.
 func TestRacesBeforeAFailure(t *testing.T) {
 	t.Parallel()
 	judge := filepath.Join(t.TempDir(), "once")
 	script := `#!/bin/sh
 cat >/dev/null
-[ -e ` + judge + `.asked ] && kill -KILL $$
+[ -e ` + judge + `.twice ] && kill -KILL $$
+[ -e ` + judge + `.asked ] && touch ` + judge + `.twice
 touch ` + judge + `.asked
 echo 'race on total: write by g1 at a.go:1 (event 1), write by g2 at a.go:2 (event 2)'
 exit 66

@@ -1,106 +1,129 @@
-// Package process runs the programs that gorec starts: signals are handed on to them, and none
-// of them outlives gorec.
+// Package process runs the programs that gorec starts, and has its temporary folder. None of them outlives gorec.
 package process
 
 import (
-	"fmt"
 	"os"
 	"os/exec"
 	"os/signal"
 	"runtime"
+	"strings"
 	"sync"
 	"syscall"
+	"time"
 )
 
 // A Keeper runs programs.
 type Keeper struct {
-	foreground bool // the terminal sends its signals to all that gorec starts too
-	signals    chan os.Signal
+	Folder     string   // for temporary files
+	lock       *os.File // of the folder
+	foreground bool     // the terminal sends its signals to the programs too
 
 	mu      sync.Mutex
-	running map[*os.Process]bool
-	count   int  // signals so far
-	unread  bool // nobody reads what gorec writes
+	running *os.Process // that signals are for, nil where there is none
+	kind    Kind        // of that
+	last    time.Time   // when a signal came
 }
 
-// New takes the signals by which users and machines end programs.
-func New() *Keeper {
-	k := &Keeper{foreground: inForeground(), signals: make(chan os.Signal, 4), running: map[*os.Process]bool{}}
-	signal.Notify(k.signals, os.Interrupt, syscall.SIGTERM, syscall.SIGHUP, syscall.SIGQUIT, syscall.SIGPIPE)
+// A Kind is that of what runs.
+type Kind int
+
+const (
+	Program Kind = iota // it gets the signals
+	Go                  // the command go, which waits for what it started, but only where the signal is ^C
+	Judge               // signals aren't for it
+)
+
+// New makes the folder, and takes the signals by which users and machines end programs.
+func New() (*Keeper, error) {
+	k := &Keeper{foreground: inForeground()}
+	if err := k.makeFolder(); err != nil {
+		return nil, err
+	}
+	signals := make(chan os.Signal, 4)
+	signal.Notify(signals, os.Interrupt, syscall.SIGTERM, syscall.SIGHUP, syscall.SIGQUIT, syscall.SIGPIPE)
 	go func() {
-		for s := range k.signals {
-			k.handOn(s.(syscall.Signal))
+		for s := range signals {
+			k.take(s.(syscall.Signal))
 		}
 	}()
-	return k
+	return k, nil
+}
+
+// End removes the folder.
+func (k *Keeper) End() {
+	os.RemoveAll(k.Folder)
+	k.lock.Close()
 }
 
 // Interrupted reports whether a signal has come: nothing new should begin.
 func (k *Keeper) Interrupted() bool {
 	k.mu.Lock()
 	defer k.mu.Unlock()
-	return k.count > 0
+	return !k.last.IsZero()
 }
 
-// Unread reports whether nobody reads what gorec writes, as in gorec test | head.
-func (k *Keeper) Unread() bool {
+// oneSignal is how long signals count as one. The command timeout sends one to gorec, and then to its whole group.
+const oneSignal = time.Second
+
+// take hands a signal on to what runs, which a second one kills. Where nothing runs that signals are for, or nobody reads what
+// gorec writes, gorec ends at once, and the kernel kills what it has started.
+func (k *Keeper) take(s syscall.Signal) {
 	k.mu.Lock()
 	defer k.mu.Unlock()
-	return k.unread
+	switch {
+	case s == syscall.SIGPIPE, k.running == nil && time.Since(k.last) > oneSignal:
+		k.End()
+		os.Exit(128 + int(s)) // as shells have it
+	case k.last.IsZero():
+		k.handOn(s)
+	case time.Since(k.last) > oneSignal:
+		k.running.Kill()
+	default:
+		return
+	}
+	k.last = time.Now()
 }
 
-// handOn gives the running programs a signal, unless the terminal has. The third one kills. Where
-// nobody reads on, each write brings a signal; the first one ends the programs.
+// handOn gives what runs a signal. ^C is for all that it started too, unless the terminal has sent it.
 func (k *Keeper) handOn(s syscall.Signal) {
-	k.mu.Lock()
-	defer k.mu.Unlock()
-	if s == syscall.SIGPIPE {
-		if k.unread {
-			return
-		}
-		k.unread, s = true, syscall.SIGTERM
-	}
-	k.count++
-	if k.count == 2 && len(k.running) > 0 {
-		fmt.Fprintln(os.Stderr, "gorec: the program goes on; one more signal kills it")
-	}
-	for p := range k.running {
-		switch {
-		case k.count > 2:
-			p.Kill()
-		case !k.foreground:
-			sendToGroup(p, s)
-		case s != syscall.SIGINT && s != syscall.SIGQUIT:
-			p.Signal(s)
-		}
+	switch {
+	case k.kind == Go:
+		syscall.Kill(-k.running.Pid, syscall.SIGINT)
+	case s != syscall.SIGINT && s != syscall.SIGQUIT:
+		k.running.Signal(s)
+	case !k.foreground:
+		syscall.Kill(-k.running.Pid, s)
 	}
 }
 
-// Run runs a program to its end. It is killed where gorec is.
-func (k *Keeper) Run(cmd *exec.Cmd) error {
-	end := make(chan error, 1)
-	go func() {
-		runtime.LockOSThread() // the kernel kills the program where the thread that started it ends
-		defer runtime.UnlockOSThread()
-		end <- k.run(cmd)
-	}()
-	return <-end
-}
-
-func (k *Keeper) run(cmd *exec.Cmd) error {
-	cmd.SysProcAttr = attributes(k.foreground)
+// Run runs a program to its end.
+func (k *Keeper) Run(cmd *exec.Cmd, kind Kind) error {
+	runtime.LockOSThread() // the kernel kills the program where the thread that started it ends
+	defer runtime.UnlockOSThread()
+	cmd.SysProcAttr = attributes(kind != Program || !k.foreground)
 	k.mu.Lock()
 	err := cmd.Start()
-	if err == nil {
-		k.running[cmd.Process] = true
+	if err == nil && kind != Judge {
+		k.running, k.kind = cmd.Process, kind
+		defer k.ended()
 	}
 	k.mu.Unlock()
 	if err != nil {
 		return err
 	}
-	err = cmd.Wait()
+	return cmd.Wait()
+}
+
+func (k *Keeper) ended() {
 	k.mu.Lock()
-	delete(k.running, cmd.Process)
-	k.mu.Unlock()
-	return err
+	defer k.mu.Unlock()
+	k.running = nil
+}
+
+// inForeground reports whether this process is one of those that a terminal sends ^C to.
+func inForeground() bool {
+	text, _ := os.ReadFile("/proc/self/stat")
+	_, rest, _ := strings.Cut(string(text), ") ") // behind the program's name
+	words := strings.Fields(rest)                 // its state, its parent, its group, its session, its terminal, and that one's group
+	return len(words) > 5 && words[2] == words[5]
 }

@@ -4,9 +4,6 @@ import (
 	"io"
 	"sort"
 	"strings"
-
-	"gorace.local/recorder/internal/sites"
-	"gorace.local/recorder/wire"
 )
 
 // A Deed is something that a goroutine did which may order it after others, or others after it.
@@ -66,7 +63,7 @@ type holding struct {
 
 // follower follows what goroutines hold and do.
 type follower struct {
-	*printer
+	*Trace
 	held    map[uint32][]holding // by goroutine
 	last    map[uint32]Deed
 	wanted  map[int]bool
@@ -75,33 +72,27 @@ type follower struct {
 	left    map[uint32]string // what is left out, by object
 }
 
-// Moments are those of the wanted events, which are counted from 1, of the trace that Write
-// makes of the same log.
-func Moments(records []wire.Record, table sites.Table, o Options, wanted map[int]bool) (map[int]Moment, error) {
-	return momentsOf(wholeLog(records), table, o, wanted)
-}
-
-func momentsOf(s *stretch, table sites.Table, o Options, wanted map[int]bool) (map[int]Moment, error) {
-	f := &follower{held: map[uint32][]holding{}, last: map[uint32]Deed{}, wanted: wanted, moments: map[int]Moment{}, left: map[uint32]string{}}
-	d := declare(named(s, o), table)
+// Moments are those of the wanted events, which are counted from 1.
+func (t *Trace) Moments(wanted map[int]bool) (map[int]Moment, error) {
+	f := &follower{
+		Trace: t, held: map[uint32][]holding{}, last: map[uint32]Deed{}, wanted: wanted, moments: map[int]Moment{}, left: map[uint32]string{},
+	}
 	told := 0
-	d.printed = func(p *printer, i int) {
-		f.printer = p
-		r := p.at(i)
-		for told < p.events {
+	_, err := t.writeEach(io.Discard, func(i, events int) {
+		r := &t.Records[i]
+		for told < events {
 			if told++; wanted[told] {
-				f.moments[told] = f.moment(r, told < p.events)
+				f.moments[told] = f.moment(r, told < events)
 			}
 		}
 		f.follow(r)
-	}
-	_, err := d.print(io.Discard)
+	})
 	return f.moments, err
 }
 
-func (f *follower) moment(r *wire.Record, goesOn bool) Moment {
+func (f *follower) moment(r *Record, goesOn bool) Moment {
 	m := Moment{Last: f.last[r.Goroutine], Change: goesOn && f.isChange(r)}
-	if isAccess(r.Op) {
+	if r.Op.isAccess() {
 		m.Stack, m.Goroutine = r.OtherSite, r.Goroutine
 	}
 	for _, h := range f.held[r.Goroutine] {
@@ -112,17 +103,14 @@ func (f *follower) moment(r *wire.Record, goesOn bool) Moment {
 
 // name is that of an object, also of one that is left out.
 func (f *follower) name(id uint32) string {
-	if int(id) >= len(f.objects) {
-		return "nil"
-	}
-	if o := &f.objects[id]; o.name != "" && o.op != wire.Release {
-		return o.name
-	}
-	site := f.table[f.objects[id].site].Name
-	if f.objects[id].op == wire.Release {
+	o, is := &f.objects[id], f.Objects[id]
+	site := f.Sites[is.Site].Name
+	switch {
+	case is.Kind == Order:
 		return site
-	}
-	if f.left[id] == "" {
+	case o.name != "":
+		return o.name
+	case f.left[id] == "":
 		f.left[id] = f.free().take(site)
 	}
 	return f.left[id]
@@ -141,53 +129,43 @@ func (f *follower) free() names {
 	return f.taken
 }
 
-// deeds say what a record is of a goroutine's, in front of the name of the object.
-var deeds = map[wire.Op]string{
-	wire.Send: "send on ", wire.Receive: "receive from ", wire.ReceiveClosed: "receive from the closed ", wire.Close: "close of ",
-	wire.Lock: "lock of ", wire.TryLock: "trylock of ", wire.ReadLock: "rlock of ", wire.TryReadLock: "tryrlock of ",
-	wire.Unlock: "unlock of ", wire.ReadUnlock: "runlock of ",
-	wire.OnceBegin: "begin of ", wire.OnceEnd: "end of ", wire.OnceDone: "end of ",
-	wire.Release: "synchronization through ", wire.Acquire: "synchronization through ",
-}
-
 // follow takes in a record.
-func (f *follower) follow(r *wire.Record) {
-	g, place := r.Goroutine, f.table[r.Site].Place
+func (f *follower) follow(r *Record) {
+	g, place := r.Goroutine, f.Sites[r.Site].Place
 	switch r.Op {
-	case wire.Go:
-		if r.Site != 0 && wire.GoKind(r.Kind) != wire.GoEarlier { // else nobody knows who started it, or it wasn't now
+	case Go:
+		if r.Site != 0 && GoKind(r.Kind) != GoEarlier { // else nobody knows who started it, or it wasn't now
 			f.last[g] = Deed{What: "go of " + f.nameOf(r.Other), Place: place}
 		}
 		f.last[r.Other] = Deed{What: "its start", Place: place}
 		return
-	case wire.Exit:
+	case Exit:
 		delete(f.held, g)
 		return
-	case wire.Meet:
+	case Meet:
 		f.last[g] = Deed{What: "send on " + f.name(r.Object), Place: place}
-		f.last[r.Other] = Deed{What: "receive from " + f.name(r.Object), Place: f.table[r.OtherSite].Place}
+		f.last[r.Other] = Deed{What: "receive from " + f.name(r.Object), Place: f.Sites[r.OtherSite].Place}
 		return
 	}
-	what := deeds[r.Op]
-	if what == "" {
+	if int(r.Op) >= len(deeds) || deeds[r.Op] == "" {
 		return
 	}
-	name := f.name(r.Object)
+	what, name := deeds[r.Op], f.name(r.Object)
 	if name == "" { // as of what the standard library orders
 		what = strings.TrimSuffix(what, " through ")
 	}
 	d := Deed{What: what + name, Place: place}
-	if o := &f.objects[r.Object]; o.op == wire.DeclareLock && o.name == "" {
-		d.LeftOut = f.name(r.Object)
+	if kind := f.Objects[r.Object].Kind; (kind == Mutex || kind == RWMutex) && f.objects[r.Object].name == "" {
+		d.LeftOut = name
 	}
 	f.last[g] = d
 	switch r.Op {
-	case wire.Lock, wire.TryLock:
+	case Lock, TryLock:
 		f.held[g] = append(f.held[g], holding{r.Object, false, d})
-	case wire.ReadLock, wire.TryReadLock:
+	case ReadLock, TryReadLock:
 		f.held[g] = append(f.held[g], holding{r.Object, true, d})
-	case wire.Unlock, wire.ReadUnlock:
-		f.release(g, r.Object, r.Op == wire.ReadUnlock)
+	case Unlock, ReadUnlock:
+		f.release(g, r.Object, r.Op == ReadUnlock)
 	}
 }
 

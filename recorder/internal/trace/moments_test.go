@@ -3,47 +3,42 @@ package trace
 import (
 	"strings"
 	"testing"
-
-	"gorace.local/recorder/internal/sites"
-	"gorace.local/recorder/wire"
 )
 
 // TestMoments: what is held and done stands in the log, also where the trace leaves it out.
 func TestMoments(t *testing.T) {
-	table := sites.Table{{Place: "-"}}
-	for _, s := range []sites.Site{{Name: "x"}, {Name: "mu"}, {Name: "own"}, {Name: "c"}, {Name: "group"}, {}} {
+	table := []Site{{Place: "-"}}
+	for _, s := range []Site{{Name: "x"}, {Name: "mu"}, {Name: "own"}, {Name: "c"}, {Name: "group"}, {}} {
 		for _, line := range "12" {
 			s.Place = s.Name + ".go:" + string(line)
 			table = append(table, s)
 		}
 	}
 	const x, mu, own, c, group, start = 1, 3, 5, 7, 9, 11
-	records := []wire.Record{
-		{Op: wire.Go, Other: 1, Site: start},
-		{Op: wire.Go, Other: 2, Site: start + 1},
-		{Op: wire.DeclareVar, Object: 1, Site: x},
-		{Op: wire.DeclareLock, Object: 2, Site: mu, Kind: 1},
-		{Op: wire.DeclareLock, Object: 3, Site: own},
-		{Op: wire.DeclareChan, Object: 4, Site: c},
-		{Op: wire.Read, Object: 1, Goroutine: 1, Site: x}, // A
-		{Op: wire.ReadLock, Object: 2, Goroutine: 1, Site: mu},
-		{Op: wire.Write, Object: 1, Goroutine: 1, Site: x, Value: 1}, // B
-		{Op: wire.ReadLock, Object: 2, Goroutine: 2, Site: mu},
-		{Op: wire.Lock, Object: 3, Goroutine: 2, Site: own},              // which g2 alone uses
-		{Op: wire.Write, Object: 1, Goroutine: 2, Site: x + 1, Value: 2}, // C
-		{Op: wire.Meet, Object: 4, Goroutine: 2, Other: 1, Site: c, OtherSite: c + 1, Value: 1},
-		{Op: wire.ReadUnlock, Object: 2, Goroutine: 2, Site: mu + 1},
-		{Op: wire.Write, Object: 1, Goroutine: 1, Site: x, Value: 3}, // D
-		{Op: wire.Unlock, Object: 3, Goroutine: 2, Site: own + 1},
-		{Op: wire.Release, Object: 5, Goroutine: 2, Site: group},
-		{Op: wire.Acquire, Object: 5, Site: group + 1},
-		{Op: wire.Read, Object: 1, Site: x, Value: 3},               // E
-		{Op: wire.Read, Object: 1, Goroutine: 2, Site: x, Value: 3}, // F
-		{Op: wire.Release, Object: 6, Site: start},
-		{Op: wire.Read, Object: 1, Site: x, Value: 3}, // G
+	records := []Record{
+		{Op: Go, Other: 1, Site: start},
+		{Op: Go, Other: 2, Site: start + 1},
+		{Op: Read, Object: 1, Goroutine: 1, Site: x}, // A
+		{Op: ReadLock, Object: 2, Goroutine: 1, Site: mu},
+		{Op: Write, Object: 1, Goroutine: 1, Site: x}, // B
+		{Op: ReadLock, Object: 2, Goroutine: 2, Site: mu},
+		{Op: Lock, Object: 3, Goroutine: 2, Site: own},    // which g2 alone uses
+		{Op: Write, Object: 1, Goroutine: 2, Site: x + 1}, // C
+		{Op: Meet, Object: 4, Goroutine: 2, Other: 1, Site: c, OtherSite: c + 1},
+		{Op: ReadUnlock, Object: 2, Goroutine: 2, Site: mu + 1},
+		{Op: Write, Object: 1, Goroutine: 1, Site: x}, // D
+		{Op: Unlock, Object: 3, Goroutine: 2, Site: own + 1},
+		{Op: Release, Object: 5, Goroutine: 2, Site: group},
+		{Op: Acquire, Object: 5, Site: group + 1},
+		{Op: Read, Object: 1, Site: x},               // E
+		{Op: Read, Object: 1, Goroutine: 2, Site: x}, // F
+		{Op: Release, Object: 6, Site: start},
+		{Op: Read, Object: 1, Site: x}, // G
 	}
+	objects := []Object{{}, {Kind: Variable, Site: x}, {Kind: RWMutex, Site: mu}, {Kind: Mutex, Site: own}, {Kind: Channel, Site: c}, {Kind: Order, Site: group}, {Kind: Order, Site: start}}
+	trace := New(&Recording{Records: records, Objects: objects, Sites: table}, Options{Version: 1})
 	var b strings.Builder
-	if _, err := Write(records, table, Options{Version: 1}, &b); err != nil {
+	if _, err := trace.Write(&b); err != nil {
 		t.Fatal(err)
 	}
 	events := map[int]bool{}
@@ -61,7 +56,7 @@ func TestMoments(t *testing.T) {
 			accesses = append(accesses, event)
 		}
 	}
-	moments, err := Moments(records, table, Options{Version: 1}, events)
+	moments, err := trace.Moments(events)
 	if err != nil {
 		t.Fatal(err)
 	}
@@ -88,24 +83,23 @@ func TestMoments(t *testing.T) {
 
 // TestMomentsNameLocksApart: two locks of one name that the trace leaves out, since each is one goroutine's, have two names.
 func TestMomentsNameLocksApart(t *testing.T) {
-	table := sites.Table{{Place: "-"}, {Name: "x", Place: "a.go:1"}, {Name: "mu", Place: "a.go:2"}, {Place: "a.go:3"}}
+	table := []Site{{Place: "-"}, {Name: "x", Place: "a.go:1"}, {Name: "mu", Place: "a.go:2"}, {Place: "a.go:3"}}
 	const x, mu, start = 1, 2, 3
-	records := []wire.Record{
-		{Op: wire.Go, Other: 1, Site: start},
-		{Op: wire.Go, Other: 2, Site: start},
-		{Op: wire.DeclareVar, Object: 1, Site: x},
-		{Op: wire.DeclareLock, Object: 2, Site: mu},
-		{Op: wire.DeclareLock, Object: 3, Site: mu},
-		{Op: wire.Lock, Object: 2, Goroutine: 1, Site: mu},
-		{Op: wire.Write, Object: 1, Goroutine: 1, Site: x, Value: 1},
-		{Op: wire.Lock, Object: 3, Goroutine: 2, Site: mu},
-		{Op: wire.Write, Object: 1, Goroutine: 2, Site: x, Value: 2},
+	records := []Record{
+		{Op: Go, Other: 1, Site: start},
+		{Op: Go, Other: 2, Site: start},
+		{Op: Lock, Object: 2, Goroutine: 1, Site: mu},
+		{Op: Write, Object: 1, Goroutine: 1, Site: x},
+		{Op: Lock, Object: 3, Goroutine: 2, Site: mu},
+		{Op: Write, Object: 1, Goroutine: 2, Site: x},
 	}
+	objects := []Object{{}, {Kind: Variable, Site: x}, {Kind: Mutex, Site: mu}, {Kind: Mutex, Site: mu}}
+	trace := New(&Recording{Records: records, Objects: objects, Sites: table}, Options{Version: 1})
 	var b strings.Builder
-	if _, err := Write(records, table, Options{Version: 1}, &b); err != nil {
+	if _, err := trace.Write(&b); err != nil {
 		t.Fatal(err)
 	}
-	moments, err := Moments(records, table, Options{Version: 1}, map[int]bool{3: true, 4: true})
+	moments, err := trace.Moments(map[int]bool{3: true, 4: true})
 	if err != nil {
 		t.Fatal(err)
 	}
@@ -123,21 +117,21 @@ func TestMomentsNameLocksApart(t *testing.T) {
 // TestMomentsOfAnUnlockByAnother: where one goroutine unlocks what others have read-locked, the first
 // of these holds it no longer, each time.
 func TestMomentsOfAnUnlockByAnother(t *testing.T) {
-	table := sites.Table{{Place: "-"}, {Name: "x", Place: "a.go:1"}, {Name: "mu", Place: "a.go:2"}, {Place: "a.go:3"}}
+	table := []Site{{Place: "-"}, {Name: "x", Place: "a.go:1"}, {Name: "mu", Place: "a.go:2"}, {Place: "a.go:3"}}
 	const x, mu, start = 1, 2, 3
-	records := []wire.Record{
-		{Op: wire.Go, Other: 1, Site: start},
-		{Op: wire.Go, Other: 2, Site: start},
-		{Op: wire.DeclareVar, Object: 1, Site: x},
-		{Op: wire.DeclareLock, Object: 2, Site: mu, Kind: 1},
-		{Op: wire.ReadLock, Object: 2, Goroutine: 2, Site: mu},
-		{Op: wire.ReadLock, Object: 2, Goroutine: 1, Site: mu},
-		{Op: wire.ReadUnlock, Object: 2, Site: mu},
-		{Op: wire.Write, Object: 1, Goroutine: 1, Site: x, Value: 1},
-		{Op: wire.Write, Object: 1, Goroutine: 2, Site: x, Value: 2},
+	records := []Record{
+		{Op: Go, Other: 1, Site: start},
+		{Op: Go, Other: 2, Site: start},
+		{Op: ReadLock, Object: 2, Goroutine: 2, Site: mu},
+		{Op: ReadLock, Object: 2, Goroutine: 1, Site: mu},
+		{Op: ReadUnlock, Object: 2, Site: mu},
+		{Op: Write, Object: 1, Goroutine: 1, Site: x},
+		{Op: Write, Object: 1, Goroutine: 2, Site: x},
 	}
+	objects := []Object{{}, {Kind: Variable, Site: x}, {Kind: RWMutex, Site: mu}}
+	trace := New(&Recording{Records: records, Objects: objects, Sites: table}, Options{Version: 1})
 	for round := 0; round < 20; round++ {
-		moments, err := Moments(records, table, Options{Version: 1}, map[int]bool{6: true, 7: true})
+		moments, err := trace.Moments(map[int]bool{6: true, 7: true})
 		if err != nil {
 			t.Fatal(err)
 		}

@@ -3,8 +3,6 @@ package trace
 import (
 	"strings"
 	"testing"
-
-	"gorace.local/recorder/wire"
 )
 
 // TestChangesAreReads: where other orders are looked for, a change of what a map or an object of the
@@ -12,26 +10,24 @@ import (
 // doesn't.
 func TestChangesAreReads(t *testing.T) {
 	for _, c := range []struct {
-		kind    wire.VarKind
+		kind    ObjectKind
 		predict bool
 		more    string
 	}{
-		{wire.VarMap, true, "read main x 1 a.go:2\n"},
-		{wire.VarContent, true, "read main x 1 a.go:2\n"},
-		{wire.VarMemory, true, ""},
-		{wire.VarGroup, true, ""},
-		{wire.VarMap, false, ""},
+		{Map, true, "read main x 1 a.go:2\n"},
+		{Content, true, "read main x 1 a.go:2\n"},
+		{Variable, true, ""},
+		{Map, false, ""},
 	} {
-		records := []wire.Record{
-			{Op: wire.Go, Other: 1, Site: 1},
-			{Op: wire.DeclareVar, Object: 1, Kind: uint8(c.kind), Site: 1},
-			{Op: wire.Write, Object: 1, Goroutine: 1, Site: 1},
-			{Op: wire.Write, Object: 1, Site: 2},
-			{Op: wire.Read, Object: 1, Site: 3},
+		records := []Record{
+			{Op: Go, Other: 1, Site: 1},
+			{Op: Write, Object: 1, Goroutine: 1, Site: 1},
+			{Op: Write, Object: 1, Site: 2},
+			{Op: Read, Object: 1, Site: 3},
 		}
+		trace := New(of(records, Object{Kind: c.kind, Site: 1}), Options{Version: 2, Predict: c.predict})
 		var b strings.Builder
-		o := Options{Version: 2, Predict: c.predict}
-		if _, err := Write(records, table, o, &b); err != nil {
+		if _, err := trace.Write(&b); err != nil {
 			t.Fatal(err)
 		}
 		first := "write g1 x 1 a.go:1\n"
@@ -42,7 +38,7 @@ func TestChangesAreReads(t *testing.T) {
 		if !strings.HasSuffix(b.String(), "go main g1 a.go:1\n"+want) {
 			t.Errorf("%+v: got\n%s", c, b.String())
 		}
-		moments, err := Moments(records, table, o, map[int]bool{2: true, 3: true, 4: true})
+		moments, err := trace.Moments(map[int]bool{2: true, 3: true, 4: true})
 		if err != nil {
 			t.Fatal(err)
 		}
@@ -54,17 +50,15 @@ func TestChangesAreReads(t *testing.T) {
 
 // TestAChangeAtTheLimit: the two events of a change stand in one trace.
 func TestAChangeAtTheLimit(t *testing.T) {
-	records := []wire.Record{
-		{Op: wire.Go, Other: 1, Site: 1},
-		{Op: wire.DeclareVar, Object: 1, Kind: uint8(wire.VarMap), Site: 1},
-		{Op: wire.Write, Object: 1, Goroutine: 1, Site: 1},
-		{Op: wire.Write, Object: 1, Site: 2},
+	records := []Record{
+		{Op: Go, Other: 1, Site: 1},
+		{Op: Write, Object: 1, Goroutine: 1, Site: 1},
+		{Op: Write, Object: 1, Site: 2},
 	}
 	for limit, want := range map[int]int{3: 3, 4: 3, 5: 5} {
-		var b strings.Builder
-		s, err := Write(records, table, Options{Version: 2, Predict: true, Events: limit}, &b)
-		if err != nil || s.Events != want {
-			t.Errorf("limit %d: %d events, %v", limit, s.Events, err)
+		o := Options{Version: 2, Predict: true, Events: limit}
+		if _, s := writtenAs(t, o, of(records, Object{Kind: Map, Site: 1})); s.Events != want {
+			t.Errorf("limit %d: %d events", limit, s.Events)
 		}
 	}
 }
@@ -73,19 +67,16 @@ func TestAChangeAtTheLimit(t *testing.T) {
 // rlock may stand before the lock there.
 func TestOrdersOfPredictions(t *testing.T) {
 	const n = 2*maxKind + 1
-	records := []wire.Record{{Op: wire.Go, Other: 1, Site: 1}}
+	records, orders := []Record{{Op: Go, Other: 1, Site: 1}}, make([]Object, n)
 	for id := uint32(1); id <= n; id++ {
+		orders[id-1] = Object{Kind: Order, Site: 1}
 		records = append(records,
-			wire.Record{Op: wire.Release, Object: id, Site: 1},
-			wire.Record{Op: wire.Acquire, Object: id, Goroutine: 1, Site: 2})
+			Record{Op: Release, Object: id, Site: 1},
+			Record{Op: Acquire, Object: id, Goroutine: 1, Site: 2})
 	}
 	for _, predict := range []bool{false, true} {
-		var b strings.Builder
-		s, err := Write(records, table, Options{Version: 2, Predict: predict}, &b)
-		if err != nil {
-			t.Fatal(err)
-		}
-		if hasLock := strings.Contains(b.String(), "\nrwmutex "); hasLock == predict || (s.Cut == "") == predict {
+		text, s := writtenAs(t, Options{Version: 2, Predict: predict, All: true}, of(records, orders...))
+		if hasLock := strings.Contains(text, "\nrwmutex "); hasLock == predict || (s.Cut == "") == predict {
 			t.Errorf("predict %v: a lock %v, cut off: %q", predict, hasLock, s.Cut)
 		}
 	}

@@ -4,22 +4,27 @@ import (
 	"fmt"
 	"strings"
 	"testing"
-
-	"gorace.local/recorder/internal/sites"
-	"gorace.local/recorder/wire"
 )
 
-var table = sites.Table{{Place: "-"}, {Place: "a.go:1", Name: "x"}, {Place: "a.go:2", Name: "x"}, {Place: "a.go:3", Name: "mu"}}
+var table = []Site{{Place: "-"}, {Place: "a.go:1", Name: "x"}, {Place: "a.go:2", Name: "x"}, {Place: "a.go:3", Name: "mu"}}
 
-func written(t *testing.T, records []wire.Record) (string, *Summary) {
-	t.Helper()
-	return writtenAs(t, 1, records)
+// x is a variable.
+var x = Object{Kind: Variable, Site: 1}
+
+// of is a recording whose objects have the numbers from 1 on.
+func of(records []Record, objects ...Object) *Recording {
+	return &Recording{Records: records, Objects: append([]Object{{}}, objects...), Sites: table}
 }
 
-func writtenAs(t *testing.T, version int, records []wire.Record) (string, *Summary) {
+func written(t *testing.T, r *Recording) (string, *Summary) {
+	t.Helper()
+	return writtenAs(t, Options{Version: 1}, r)
+}
+
+func writtenAs(t *testing.T, o Options, r *Recording) (string, *Summary) {
 	t.Helper()
 	var b strings.Builder
-	s, err := Write(records, table, Options{Version: version}, &b)
+	s, err := New(r, o).Write(&b)
 	if err != nil {
 		t.Fatal(err)
 	}
@@ -27,19 +32,17 @@ func writtenAs(t *testing.T, version int, records []wire.Record) (string, *Summa
 }
 
 func TestWhatOneGoroutineUsesIsLeftOut(t *testing.T) {
-	text, _ := written(t, []wire.Record{
-		{Op: wire.DeclareVar, Object: 1, Site: 1},
-		{Op: wire.Write, Object: 1, Site: 1, Value: 5}, // before the first go
-		{Op: wire.Go, Other: 1, Site: 1},
-		{Op: wire.DeclareVar, Object: 2, Site: 2},
-		{Op: wire.Write, Object: 2, Goroutine: 1, Site: 2, Value: 3}, // by one alone
-		{Op: wire.Read, Object: 1, Goroutine: 1, Site: 2, Value: 5},
-		{Op: wire.Write, Object: 1, Site: 1, Value: 4},
-		{Op: wire.Exit, Goroutine: 1, Site: 1},
-	})
+	text, _ := written(t, of([]Record{
+		{Op: Write, Object: 1, Site: 1}, // before the first go
+		{Op: Go, Other: 1, Site: 1},
+		{Op: Write, Object: 2, Goroutine: 1, Site: 2}, // by one alone
+		{Op: Read, Object: 1, Goroutine: 1, Site: 2},
+		{Op: Write, Object: 1, Site: 1},
+		{Op: Exit, Goroutine: 1, Site: 1},
+	}, x, Object{Kind: Variable, Site: 2}))
 	want := `gotrace 1
-var x
 goroutine g1
+var x
 go main g1 a.go:1
 read g1 x 0 a.go:2
 write main x 1 a.go:1
@@ -51,15 +54,13 @@ exit g1 a.go:1
 }
 
 func TestAtomicsBesidePlainAccesses(t *testing.T) {
-	text, _ := written(t, []wire.Record{
-		{Op: wire.Go, Other: 1, Site: 1},
-		{Op: wire.DeclareVar, Object: 1, Site: 1},
-		{Op: wire.AtomicWrite, Object: 1, Goroutine: 1, Site: 1},
-		{Op: wire.Read, Object: 1, Site: 2},
-	})
+	text, _ := written(t, of([]Record{
+		{Op: Go, Other: 1, Site: 1},
+		{Op: AtomicWrite, Object: 1, Goroutine: 1, Site: 1},
+		{Op: Read, Object: 1, Site: 2},
+	}, x))
 	want := `gotrace 1
 goroutine g1
-var x
 var x_atomic_g1
 go main g1 a.go:1
 write g1 x_atomic_g1 0 a.go:1
@@ -71,18 +72,20 @@ read main x_atomic_g1 0 a.go:2
 }
 
 // joined are goroutines that each lock, and are waited for before the next one starts.
-func joined(n uint32) []wire.Record {
-	records := []wire.Record{{Op: wire.DeclareLock, Object: 1, Site: 3}, {Op: wire.Lock, Object: 1, Site: 3}, {Op: wire.Unlock, Object: 1, Site: 3}}
+func joined(n uint32) *Recording {
+	records := []Record{{Op: Lock, Object: 1, Site: 3}, {Op: Unlock, Object: 1, Site: 3}}
+	objects := []Object{{Kind: Mutex, Site: 3}}
 	for g := uint32(1); g <= n; g++ {
 		records = append(records,
-			wire.Record{Op: wire.Go, Other: g, Site: 1},
-			wire.Record{Op: wire.Lock, Object: 1, Goroutine: g, Site: 3},
-			wire.Record{Op: wire.Unlock, Object: 1, Goroutine: g, Site: 3},
-			wire.Record{Op: wire.Release, Object: 1 + g, Goroutine: g, Site: 1},
-			wire.Record{Op: wire.Exit, Goroutine: g, Site: 1},
-			wire.Record{Op: wire.Acquire, Object: 1 + g, Site: 1})
+			Record{Op: Go, Other: g, Site: 1},
+			Record{Op: Lock, Object: 1, Goroutine: g, Site: 3},
+			Record{Op: Unlock, Object: 1, Goroutine: g, Site: 3},
+			Record{Op: Release, Object: 1 + g, Goroutine: g, Site: 1},
+			Record{Op: Exit, Goroutine: g, Site: 1},
+			Record{Op: Acquire, Object: 1 + g, Site: 1})
+		objects = append(objects, Object{Kind: Order, Site: 1})
 	}
-	return records
+	return of(records, objects...)
 }
 
 func TestNamesAreLentOn(t *testing.T) {
@@ -103,13 +106,13 @@ func TestNamesAreLentOn(t *testing.T) {
 }
 
 func TestTooManyGoroutinesAreCutOff(t *testing.T) {
-	var records []wire.Record
-	for _, r := range joined(1100) {
-		if r.Op != wire.Acquire { // nothing joins them
-			records = append(records, r)
+	r := joined(1100)
+	for i := range r.Records {
+		if r.Records[i].Op == Acquire { // nothing joins them
+			r.Records[i].Op = None
 		}
 	}
-	_, s := written(t, records)
+	_, s := written(t, r)
 	if !strings.HasPrefix(s.Cut, "more than 1,024 goroutines") || !strings.HasSuffix(s.Cut, "at a.go:3") {
 		t.Errorf("cut off: %q", s.Cut)
 	}
@@ -122,7 +125,7 @@ func TestTooManyGoroutinesAreCutOff(t *testing.T) {
 // trace is no illegal one, it ends in front of the send that it has no room for.
 func TestTooManyValuesAreCutOff(t *testing.T) {
 	for _, c := range []struct {
-		capacity uint64
+		capacity uint32
 		waiting  int
 		cut      string
 	}{
@@ -130,17 +133,16 @@ func TestTooManyValuesAreCutOff(t *testing.T) {
 		{100000, 65535, ""},
 		{100000, 65536, "more than 65,535 values in a channel, at a.go:2"},
 	} {
-		records := []wire.Record{
-			{Op: wire.DeclareChan, Object: 1, Site: 1, Value: c.capacity},
-			{Op: wire.Go, Other: 1, Site: 1},
-			{Op: wire.Send, Object: 1, Site: 2, Value: 1},
-			{Op: wire.Receive, Object: 1, Goroutine: 1, Site: 3, Value: 1},
+		records := []Record{
+			{Op: Go, Other: 1, Site: 1},
+			{Op: Send, Object: 1, Site: 2, Value: 1},
+			{Op: Receive, Object: 1, Goroutine: 1, Site: 3, Value: 1},
 		}
 		for n := 1; n <= c.waiting; n++ {
-			records = append(records, wire.Record{Op: wire.Send, Object: 1, Site: 2, Value: uint64(n + 1)})
+			records = append(records, Record{Op: Send, Object: 1, Site: 2, Value: uint64(n + 1)})
 		}
-		records = append(records, wire.Record{Op: wire.Exit, Goroutine: 1, Site: 3})
-		text, s := written(t, records)
+		records = append(records, Record{Op: Exit, Goroutine: 1, Site: 3})
+		text, s := writtenAs(t, Options{Version: 1, All: true}, of(records, Object{Kind: Channel, Site: 1, Capacity: c.capacity}))
 		if s.Cut != c.cut || !strings.Contains(text, "\nchan x 65535\n") {
 			t.Errorf("%+v: cut off: %q", c, s.Cut)
 		}
@@ -152,29 +154,30 @@ func TestTooManyValuesAreCutOff(t *testing.T) {
 
 // TestCounts: what is kept is counted as what was recorded, whatever it is written as.
 func TestCounts(t *testing.T) {
-	atomics := []wire.Record{{Op: wire.DeclareVar, Object: 1, Site: 1}}
+	var atomics, orders []Record
 	for g := uint32(1); g <= 3; g++ {
 		atomics = append(atomics,
-			wire.Record{Op: wire.Go, Other: g, Site: 1},
-			wire.Record{Op: wire.AtomicWrite, Object: 1, Goroutine: g, Site: 1})
+			Record{Op: Go, Other: g, Site: 1},
+			Record{Op: AtomicWrite, Object: 1, Goroutine: g, Site: 1})
 	}
-	atomics = append(atomics, wire.Record{Op: wire.Read, Object: 1, Site: 2})
-	var orders []wire.Record
+	atomics = append(atomics, Record{Op: Read, Object: 1, Site: 2})
+	ordered := make([]Object, 70000)
 	for n := uint32(1); n <= 70000; n++ {
-		orders = append(orders, wire.Record{Op: wire.Release, Object: n, Site: 1})
+		ordered[n-1] = Object{Kind: Order, Site: 1}
+		orders = append(orders, Record{Op: Release, Object: n, Site: 1})
 	}
-	orders = append(orders, wire.Record{Op: wire.Go, Other: 1, Site: 1})
+	orders = append(orders, Record{Op: Go, Other: 1, Site: 1})
 	for n := uint32(1); n <= 70000; n++ {
-		orders = append(orders, wire.Record{Op: wire.Acquire, Object: n, Goroutine: 1, Site: 1})
+		orders = append(orders, Record{Op: Acquire, Object: n, Goroutine: 1, Site: 1})
 	}
 	for _, c := range []struct {
-		records []wire.Record
-		want    string
+		of   *Recording
+		want string
 	}{
-		{atomics, "goroutines 4 of 4, variables 1 of 1, channels 0 of 0, locks 0 of 0"},
-		{orders, "goroutines 2 of 2, variables 0 of 0, channels 70000 of 70000, locks 0 of 0"},
+		{of(atomics, x), "goroutines 4 of 4, variables 1 of 1, channels 0 of 0, locks 0 of 0"},
+		{of(orders, ordered...), "goroutines 2 of 2, variables 0 of 0, channels 70000 of 70000, locks 0 of 0"},
 	} {
-		if _, s := written(t, c.records); !strings.HasSuffix(s.Counts(), "; "+c.want) {
+		if _, s := writtenAs(t, Options{Version: 1, All: true}, c.of); !strings.HasSuffix(s.Counts(), "; "+c.want) {
 			t.Errorf("got %s", s.Counts())
 		}
 	}
@@ -183,31 +186,24 @@ func TestCounts(t *testing.T) {
 // TestTooManyEventsAreCutOff: also where a record becomes several events, a trace has no more
 // than a judge takes.
 func TestTooManyEventsAreCutOff(t *testing.T) {
-	records := []wire.Record{
-		{Op: wire.DeclareVar, Object: 1, Site: 1},
-		{Op: wire.Go, Other: 1, Site: 1},
-		{Op: wire.AtomicWrite, Object: 1, Goroutine: 1, Site: 1},
-		{Op: wire.Write, Object: 1, Site: 2, Value: 1}, // two events
-		{Op: wire.Read, Object: 1, Goroutine: 1, Site: 2, Value: 1},
-		{Op: wire.Write, Object: 1, Site: 2, Value: 2}, // two events
-		{Op: wire.FaultClose, Site: 3},
+	records := []Record{
+		{Op: Go, Other: 1, Site: 1},
+		{Op: AtomicWrite, Object: 1, Goroutine: 1, Site: 1},
+		{Op: Write, Object: 1, Site: 2}, // two events
+		{Op: Read, Object: 1, Goroutine: 1, Site: 2},
+		{Op: Write, Object: 1, Site: 2}, // two events
 	}
 	for _, c := range []struct {
 		limit, events int
 		cut           string
 	}{
-		{8, 8, ""},
-		{7, 7, "more than 7 events, at a.go:3"},
+		{7, 7, ""},
 		{6, 5, "more than 6 events, at a.go:2"},
-		{5, 4, "more than 5 events, at a.go:2"},
+		{5, 5, "more than 5 events, at a.go:2"},
+		{4, 4, "more than 4 events, at a.go:2"},
 		{3, 2, "more than 3 events, at a.go:2"},
 	} {
-		var b strings.Builder
-		s, err := Write(records, table, Options{Version: 1, Events: c.limit}, &b)
-		if err != nil {
-			t.Fatal(err)
-		}
-		text := b.String()
+		text, s := writtenAs(t, Options{Version: 1, Events: c.limit}, of(records, x))
 		_, events, _ := strings.Cut(text, "\ngo main ")
 		if n := 1 + strings.Count(events, "\n") - 1; n != c.events || s.Events != c.events || s.Cut != c.cut {
 			t.Errorf("%+v: %d events, cut off: %q\n%s", c, n, s.Cut, text)
@@ -215,44 +211,25 @@ func TestTooManyEventsAreCutOff(t *testing.T) {
 	}
 }
 
-func TestAFaultIsTheLastEvent(t *testing.T) {
-	records := []wire.Record{
-		{Op: wire.DeclareChan, Object: 1, Site: 1},
-		{Op: wire.Go, Other: 1, Site: 1},
-		{Op: wire.Close, Object: 1, Goroutine: 1, Site: 1},
-		{Op: wire.FaultClose, Object: 1, Site: 2},
-	}
-	text, _ := written(t, records)
-	if !strings.HasSuffix(text, "fault main close:x a.go:2\n") {
-		t.Errorf("got\n%s", text)
-	}
-	text, _ = written(t, append(records, wire.Record{Op: wire.Exit, Goroutine: 1, Site: 1})) // it was recovered from
-	if strings.Contains(text, "fault") {
-		t.Errorf("got\n%s", text)
-	}
-}
-
 // tries are of two goroutines; what one alone tries, and fails, isn't there in version 1.
-var tries = []wire.Record{
-	{Op: wire.DeclareLock, Object: 1, Site: 3, Kind: 1},
-	{Op: wire.DeclareLock, Object: 2, Site: 1},
-	{Op: wire.Go, Other: 1, Site: 1},
-	{Op: wire.TryLock, Object: 1, Site: 2},
-	{Op: wire.TryFail, Object: 1, Goroutine: 1, Site: 1},
-	{Op: wire.Lock, Object: 2, Site: 1},
-	{Op: wire.TryFail, Object: 2, Goroutine: 1, Site: 2},
-	{Op: wire.Unlock, Object: 2, Site: 1},
-	{Op: wire.Unlock, Object: 1, Site: 2},
-	{Op: wire.TryReadLock, Object: 1, Goroutine: 1, Site: 1},
-	{Op: wire.ReadUnlock, Object: 1, Goroutine: 1, Site: 1},
-	{Op: wire.Exit, Goroutine: 1, Site: 1},
+var tries = []Record{
+	{Op: Go, Other: 1, Site: 1},
+	{Op: TryLock, Object: 1, Site: 2},
+	{Op: TryFail, Object: 1, Goroutine: 1, Site: 1},
+	{Op: Lock, Object: 2, Site: 1},
+	{Op: TryFail, Object: 2, Goroutine: 1, Site: 2},
+	{Op: Unlock, Object: 2, Site: 1},
+	{Op: Unlock, Object: 1, Site: 2},
+	{Op: TryReadLock, Object: 1, Goroutine: 1, Site: 1},
+	{Op: ReadUnlock, Object: 1, Goroutine: 1, Site: 1},
+	{Op: Exit, Goroutine: 1, Site: 1},
 }
 
 func TestTries(t *testing.T) {
 	for version, want := range map[int]string{
 		1: `gotrace 1
-rwmutex mu
 goroutine g1
+rwmutex mu
 go main g1 a.go:1
 lock main mu a.go:2
 unlock main mu a.go:2
@@ -261,9 +238,9 @@ runlock g1 mu a.go:1
 exit g1 a.go:1
 `,
 		2: `gotrace 2
+goroutine g1
 rwmutex mu
 mutex x
-goroutine g1
 go main g1 a.go:1
 trylock main mu a.go:2
 tryfail g1 mu a.go:1
@@ -276,7 +253,8 @@ runlock g1 mu a.go:1
 exit g1 a.go:1
 `,
 	} {
-		if text, _ := writtenAs(t, version, tries); text != want {
+		locks := []Object{{Kind: RWMutex, Site: 3}, {Kind: Mutex, Site: 1}}
+		if text, _ := writtenAs(t, Options{Version: version}, of(tries, locks...)); text != want {
 			t.Errorf("version %d: got\n%s", version, text)
 		}
 	}
@@ -285,22 +263,23 @@ exit g1 a.go:1
 // TestNamesAreLentOnByTries: a lock that a try has taken orders as any other, and a try that
 // failed doesn't.
 func TestNamesAreLentOnByTries(t *testing.T) {
-	for op, lent := range map[wire.Op]int{wire.Lock: 1999, wire.TryLock: 1999, wire.TryFail: 0} {
-		var records []wire.Record
-		for _, r := range joined(2000) {
+	for op, lent := range map[Op]int{Lock: 1999, TryLock: 1999, TryFail: 0} {
+		of := joined(2000)
+		var records []Record
+		for _, r := range of.Records {
 			switch {
-			case r.Op == wire.Release || r.Op == wire.Acquire: // the lock alone orders
-				continue
-			case r.Op == wire.Exit:
-				records = append(records, r, wire.Record{Op: op, Object: 1, Site: 3})
-				if op != wire.TryFail {
-					records = append(records, wire.Record{Op: wire.Unlock, Object: 1, Site: 3})
+			case r.Op == Release || r.Op == Acquire: // the lock alone orders
+			case r.Op == Exit:
+				records = append(records, r, Record{Op: op, Object: 1, Site: 3})
+				if op != TryFail {
+					records = append(records, Record{Op: Unlock, Object: 1, Site: 3})
 				}
-				continue
+			default:
+				records = append(records, r)
 			}
-			records = append(records, r)
 		}
-		text, _ := writtenAs(t, 2, records)
+		of.Records = records
+		text, _ := writtenAs(t, Options{Version: 2}, of)
 		if got := strings.Count(text, "\nchan go"); got != lent {
 			t.Errorf("%d: %d names are lent on", op, got)
 		}
@@ -321,18 +300,17 @@ func TestNames(t *testing.T) {
 
 // What code without the recorder starts for a goroutine may begin behind its exit.
 func TestAStartBehindAnExit(t *testing.T) {
-	text, _ := written(t, []wire.Record{
-		{Op: wire.DeclareVar, Object: 1, Site: 1},
-		{Op: wire.Go, Other: 1, Site: 1},
-		{Op: wire.Write, Object: 1, Goroutine: 1, Site: 1},
-		{Op: wire.Exit, Goroutine: 1, Site: 1},
-		{Op: wire.Go, Kind: uint8(wire.GoForeign), Goroutine: 1, Other: 2},
-		{Op: wire.Write, Object: 1, Goroutine: 2, Site: 2},
-		{Op: wire.Exit, Goroutine: 2, Site: 1},
-	})
+	text, _ := written(t, of([]Record{
+		{Op: Go, Other: 1, Site: 1},
+		{Op: Write, Object: 1, Goroutine: 1, Site: 1},
+		{Op: Exit, Goroutine: 1, Site: 1},
+		{Op: Go, Kind: uint8(GoForeign), Goroutine: 1, Other: 2},
+		{Op: Write, Object: 1, Goroutine: 2, Site: 2},
+		{Op: Exit, Goroutine: 2, Site: 1},
+	}, x))
 	want := `gotrace 1
-var x
 goroutine g1
+var x
 goroutine g2
 go main g1 a.go:1
 write g1 x 1 a.go:1
@@ -345,20 +323,95 @@ exit g2 a.go:1
 	}
 }
 
-// TestADefaultWithoutAllCases: the program was killed while it wrote them.
-func TestADefaultWithoutAllCases(t *testing.T) {
-	records := []wire.Record{
-		{Op: wire.DeclareChan, Object: 1, Site: 1},
-		{Op: wire.Go, Other: 1, Site: 1},
-		{Op: wire.Close, Object: 1, Goroutine: 1, Site: 2},
-		{Op: wire.Default, Count: 3, Site: 3},
-		{Op: wire.Case, Object: 1},
-		{Op: wire.Case, Object: 1, Kind: 1},
+// TestADefault: of its cases those on channels of several goroutines stand in the trace.
+func TestADefault(t *testing.T) {
+	channel := Object{Kind: Channel, Site: 1}
+	for _, c := range []struct {
+		cases []Record
+		want  string
+	}{
+		{nil, ""},
+		{[]Record{{Op: Case, Object: 2}}, ""},
+		{[]Record{{Op: Case, Object: 1}}, "default main recv:x a.go:3\n"},
+		{[]Record{{Op: Case, Object: 1}, {Op: Case, Object: 2}, {Op: Case, Object: 1, Kind: IsSend}, {Op: Case}},
+			"default main recv:x,send:x,recv:nil a.go:3\n"},
+	} {
+		records := append([]Record{
+			{Op: Go, Other: 1, Site: 1},
+			{Op: Close, Object: 1, Goroutine: 1, Site: 2},
+			{Op: Default, Count: uint16(len(c.cases)), Site: 3},
+		}, c.cases...)
+		text, _ := writtenAs(t, Options{Version: 2}, of(records, channel, channel))
+		if _, last, _ := strings.Cut(text, "close g1 x a.go:2\n"); last != c.want {
+			t.Errorf("%v:\n%s", c.cases, text)
+		}
 	}
-	for cases, want := range []string{"", "default main recv:x a.go:3\n", "default main recv:x,send:x a.go:3\n"} {
-		text, _ := writtenAs(t, 2, records[:len(records)-2+cases])
-		if _, last, _ := strings.Cut(text, "close g1 x a.go:2\n"); last != want {
-			t.Errorf("%d cases:\n%s", cases, text)
+}
+
+// TestManyGoroutinesAtOnce: of three thousand goroutines that each write a variable, and that nothing joins, a trace has as many
+// as there are names; who did nothing up to there has none.
+func TestManyGoroutinesAtOnce(t *testing.T) {
+	var records []Record
+	for g := uint32(1); g <= 3000; g++ {
+		records = append(records, Record{Op: Go, Other: g, Site: 1})
+	}
+	for g := uint32(1); g <= 3000; g++ {
+		records = append(records, Record{Op: Write, Object: 1, Goroutine: g, Site: 2}, Record{Op: Exit, Goroutine: g})
+	}
+	trace := New(of(records, x), Options{Version: 1})
+	if want := 3000 + 2*1023; trace.End() != want {
+		t.Errorf("the trace has %d records, not %d", trace.End(), want)
+	}
+	var b strings.Builder
+	if _, err := trace.Write(&b); err != nil {
+		t.Fatal(err)
+	}
+	if writes, goes := strings.Count(b.String(), "\nwrite "), strings.Count(b.String(), "\ngo "); writes != 1023 || goes != 1023 {
+		t.Errorf("%d writes, %d goes", writes, goes)
+	}
+}
+
+// TestManyVariables: a trace ends in front of the variable that it has no name for.
+func TestManyVariables(t *testing.T) {
+	const n = maxKind + 1
+	records, variables := []Record{{Op: Go, Other: 1, Site: 1}}, make([]Object, n)
+	for v := uint32(1); v <= n; v++ {
+		variables[v-1] = x
+		records = append(records, Record{Op: Write, Object: v, Site: 2}, Record{Op: Read, Object: v, Goroutine: 1, Site: 2})
+	}
+	_, s := written(t, of(records, variables...))
+	if s.Records != len(records)-2 || s.Cut != "more than 65,535 variables, at a.go:2" {
+		t.Errorf("%d of %d records, cut off: %q", s.Records, len(records), s.Cut)
+	}
+}
+
+// TestBehindTheLastAccess: what comes behind the last access that may race orders none. Where that is much it is left out.
+func TestBehindTheLastAccess(t *testing.T) {
+	for _, c := range []struct {
+		turns int
+		o     Options
+		locks int
+	}{
+		{shortRest/2 - 1, Options{Version: 1}, shortRest/2 + 1},
+		{shortRest / 2, Options{Version: 1}, 1},
+		{shortRest / 2, Options{Version: 1, All: true}, shortRest/2 + 2},
+		{shortRest / 2, Options{Version: 2, Predict: true}, shortRest/2 + 2},
+	} {
+		records := []Record{
+			{Op: Go, Other: 1, Site: 1},
+			{Op: Write, Object: 1, Site: 1},
+			{Op: Lock, Object: 2, Site: 3},
+			{Op: Unlock, Object: 2, Site: 3},
+			{Op: Write, Object: 1, Goroutine: 1, Site: 2},
+			{Op: Lock, Object: 2, Goroutine: 1, Site: 3},
+			{Op: Unlock, Object: 2, Goroutine: 1, Site: 3},
+		}
+		for i := 0; i < c.turns; i++ {
+			records = append(records, Record{Op: Lock, Object: 2, Site: 3}, Record{Op: Unlock, Object: 2, Site: 3})
+		}
+		text, s := writtenAs(t, c.o, of(records, x, Object{Kind: Mutex, Site: 3}))
+		if n := strings.Count(text, "\nlock "); n != c.locks || s.Records != len(records) || s.Cut != "" {
+			t.Errorf("%+v: %d locks, %d of %d records, cut off: %q", c, n, s.Records, len(records), s.Cut)
 		}
 	}
 }

@@ -1,18 +1,19 @@
 package translate
 
-import "gorace.local/recorder/wire"
+import "gorace.local/recorder/internal/trace"
 
 // actor is a goroutine of the program. It is known until a segment ends in which it has ended.
 type actor struct {
 	id     uint32 // the hooks' number
 	site   uint32 // of its go, 0 while that isn't known
-	label  uint32
+	label  string
 	before uint64 // its last step before the segment
 	last   uint64 // and so far
 
 	system  bool // the runtime started it for itself
 	foreign bool // the library did
 	ended   bool
+	gone    bool // it is known no more
 
 	// of a segment
 	number   uint32 // in the records
@@ -29,11 +30,9 @@ func (a *actor) isMain() bool { return a.id <= 1 }
 
 // actors are the goroutines that are known.
 type actors struct {
-	who     []actor
-	free    []uint32
-	byID    table
-	labels  []string
-	numbers map[string]uint32 // of labels
+	who  []actor
+	free []uint32
+	byID table
 }
 
 // actor is where the goroutine with a number of the hooks' is in the list.
@@ -55,20 +54,6 @@ func (l *actors) actor(id uint32) uint32 {
 	return at
 }
 
-// nameActor gives a goroutine a label. Number 0 is none.
-func (l *actors) nameActor(at uint32, label string) {
-	if l.numbers == nil {
-		l.numbers, l.labels = map[string]uint32{}, []string{""}
-	}
-	n, ok := l.numbers[label]
-	if !ok {
-		n = uint32(len(l.labels))
-		l.labels = append(l.labels, label)
-		l.numbers[label] = n
-	}
-	l.who[at].label = n
-}
-
 // dropEnded forgets those that have ended.
 func (l *actors) dropEnded() {
 	l.byID.empty()
@@ -76,10 +61,11 @@ func (l *actors) dropEnded() {
 	for i := range l.who {
 		a := &l.who[i]
 		if a.ended {
+			a.gone = true
 			l.free = append(l.free, uint32(i))
 			continue
 		}
-		a.before, a.start, a.open, a.finalize = a.last, 0, 0, false
+		a.before = a.last
 		l.byID.add(uint64(a.id), uint32(i))
 	}
 }
@@ -87,7 +73,7 @@ func (l *actors) dropEnded() {
 // number is that of a goroutine in the records, which begins there if it is new.
 func (t *Translator) number(at uint32) uint32 {
 	a := &t.who[at]
-	if a.segment != t.segments+1 {
+	if a.segment != t.attempt {
 		t.begin(a)
 	}
 	return a.number
@@ -96,7 +82,7 @@ func (t *Translator) number(at uint32) uint32 {
 // begin has a goroutine begin that does something of the program's. If its go was in an earlier segment, or was the runtime's for
 // itself, or isn't known, main starts it at the begin of the segment, so nothing comes before it.
 func (t *Translator) begin(a *actor) {
-	a.segment = t.segments + 1
+	a.segment = t.attempt
 	if a.isMain() {
 		a.number = 0
 		return
@@ -105,12 +91,12 @@ func (t *Translator) begin(a *actor) {
 	if a.start != 0 {
 		r := &t.out[a.start-1]
 		a.start = 0
-		r.Op, r.Other, r.Goroutine = wire.Go, a.number, t.number(a.starter)
+		r.Op, r.Other, r.Goroutine = trace.Go, a.number, t.number(a.starter)
 		return
 	}
-	r := wire.Record{Op: wire.Go, Other: a.number, Kind: uint8(wire.GoForeign)}
+	r := trace.Record{Op: trace.Go, Other: a.number, Kind: uint8(trace.GoForeign)}
 	if a.site != 0 && !a.foreign {
-		r.Kind, r.Site, r.OtherSite = uint8(wire.GoEarlier), t.at(a.site), a.site
+		r.Kind, r.Site, r.OtherSite = uint8(trace.GoEarlier), t.at(a.site), a.site
 	}
 	t.starts = append(t.starts, r)
 }

@@ -9,7 +9,6 @@ import (
 
 	"gorace.local/recorder/internal/hooklog"
 	"gorace.local/recorder/internal/hooklog/hooklogtest"
-	"gorace.local/recorder/internal/trace"
 )
 
 const benchRecords = 4000000
@@ -106,13 +105,8 @@ func benchmarkShape(b *testing.B, turn func(*program, *hooklogtest.Goroutine, in
 				}
 				segments++
 				if out != nil {
-					for t := trace.NewSegments(s.Records, trace.Options{Version: 2}); ; {
-						if _, err := t.Write(p.f.Table(), trace.Options{Version: 2}, out); err != nil {
-							b.Fatal(err)
-						}
-						if !t.Next() {
-							break
-						}
+					if _, err := s.Trace.Write(out); err != nil {
+						b.Fatal(err)
 					}
 				}
 			}

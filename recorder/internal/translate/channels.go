@@ -2,13 +2,12 @@ package translate
 
 import (
 	"gorace.local/recorder/internal/hooklog"
-	"gorace.local/recorder/wire"
+	"gorace.local/recorder/internal/trace"
 )
 
 // channel is one of the program's, up to where another one is found in its memory.
 type channel struct {
-	declared
-	site           uint32
+	id             uint32
 	capacity       uint32
 	closed         bool
 	sent, received uint64 // with what was there at the begin
@@ -102,13 +101,12 @@ func (t *Translator) channelOf(s *step) *channel {
 		}
 		t.channels.byKey.set(s.key, uint32(len(t.channels.all)))
 	}
-	site := t.named(s.site(), KindChannel, s.addr())
-	d := t.declare(wire.Record{Op: wire.DeclareChan, Value: uint64(s.capacity()), Site: site})
-	t.channels.all = append(t.channels.all, channel{declared: d, site: site, capacity: s.capacity()})
+	id := t.objectAt(trace.Object{Kind: trace.Channel, Capacity: s.capacity()}, KindChannel, s.site(), s.addr())
+	t.channels.all = append(t.channels.all, channel{id: id, capacity: s.capacity()})
 	c := &t.channels.all[len(t.channels.all)-1]
 	for n := s.before(); c.sent < n; {
 		c.sent++
-		t.bring(&c.declared, wire.Send, site, c.sent)
+		t.bring(id, trace.Send, c.sent)
 		t.channels.add(c, waitingValue{begin: uint32(len(t.state))})
 	}
 	return c
@@ -120,7 +118,7 @@ func (t *Translator) channel(s *step) {
 	if s.other() != 0 && op != hooklog.Meet {
 		who = s.other() - 1
 	}
-	r := wire.Record{Goroutine: t.number(who), Site: t.at(s.site())}
+	r := trace.Record{Goroutine: t.number(who), Site: t.at(s.site())}
 	c := t.channelOf(s)
 	r.Object = c.id
 	switch op {
@@ -142,29 +140,29 @@ func (t *Translator) channel(s *step) {
 			return
 		}
 		c.closed = true
-		r.Op = wire.Close
+		r.Op = trace.Close
 	case hooklog.ReceiveClosed:
 		if !c.closed {
 			c.closed = true
-			t.bring(&c.declared, wire.Close, c.site, 0)
+			t.bring(c.id, trace.Close, 0)
 		}
-		r.Op = wire.ReceiveClosed
+		r.Op = trace.ReceiveClosed
 	}
 	t.put(r)
 }
 
-func (t *Translator) send(s *step, c *channel, r *wire.Record) {
+func (t *Translator) send(s *step, c *channel, r *trace.Record) {
 	c.sent++
-	r.Op, r.Value = wire.Send, c.sent
+	r.Op, r.Value = trace.Send, c.sent
 	e := t.elementOf(s)
 	setElement(r, e)
 	t.channels.add(c, waitingValue{element: e})
 }
 
 // receive takes the first value of a buffer. What was there at the begin is known from this.
-func (t *Translator) receive(s *step, c *channel, r *wire.Record) {
+func (t *Translator) receive(s *step, c *channel, r *trace.Record) {
 	c.received++
-	r.Op, r.Value = wire.Receive, c.received
+	r.Op, r.Value = trace.Receive, c.received
 	v := t.channels.take(c)
 	if v.begin != 0 {
 		v.element = t.elementOf(s)
@@ -174,20 +172,18 @@ func (t *Translator) receive(s *step, c *channel, r *wire.Record) {
 }
 
 // setElement says what was sent, where that is known.
-func setElement(r *wire.Record, e element) {
+func setElement(r *trace.Record, e element) {
 	if e.known {
-		r.Kind, r.Other, r.OtherSite = wire.WithElement, uint32(e.bits), uint32(e.bits>>32)
+		r.Value = e.bits
 	}
 }
 
 // meet is a send and its receive without a buffer.
-func (t *Translator) meet(s *step, c *channel, r wire.Record) {
+func (t *Translator) meet(s *step, c *channel, r trace.Record) {
 	e := t.elementOf(s)
 	c.met++
-	r.Op, r.Value = wire.Meet, c.met
-	if e.known {
-		r.Value = e.bits
-	}
+	r.Op, r.Value = trace.Meet, c.met
+	setElement(&r, e)
 	r.Other, r.OtherSite = t.number(s.other()), t.at(e.waits)
 	if s.aux() == 0 {
 		r.Goroutine, r.Other, r.Site, r.OtherSite = r.Other, r.Goroutine, r.OtherSite, r.Site
@@ -203,7 +199,7 @@ func (t *Translator) defaultOf(s *step, seq uint64) {
 	for t.nextCase < len(t.cases) && t.cases[t.nextCase].seq < seq {
 		t.nextCase++
 	}
-	var cases [mostCases]wire.Record
+	var cases [mostCases]trace.Record
 	n := 0
 	for ; t.nextCase < len(t.cases) && t.cases[t.nextCase].seq == seq; t.nextCase++ {
 		if n < mostCases {
@@ -211,7 +207,7 @@ func (t *Translator) defaultOf(s *step, seq uint64) {
 			n++
 		}
 	}
-	t.note(wire.Default, 0, s)
+	t.note(trace.Default, 0, s)
 	t.out[len(t.out)-1].Count = uint16(n)
 	t.out = append(t.out, cases[:n]...)
 }
@@ -219,17 +215,17 @@ func (t *Translator) defaultOf(s *step, seq uint64) {
 // singleDefault is that of a select of one case.
 func (t *Translator) singleDefault(s *step) {
 	c := t.caseOf(s, s, hooklog.DefaultSend)
-	t.note(wire.Default, 0, s)
+	t.note(trace.Default, 0, s)
 	t.out[len(t.out)-1].Count = 1
 	t.put(c)
 }
 
 // caseOf is a case of a default.
-func (t *Translator) caseOf(c, of *step, send hooklog.Op) wire.Record {
-	r := wire.Record{Op: wire.Case, Goroutine: t.number(of.by), Site: t.at(of.site())}
+func (t *Translator) caseOf(c, of *step, send hooklog.Op) trace.Record {
+	r := trace.Record{Op: trace.Case, Goroutine: t.number(of.by), Site: t.at(of.site())}
 	r.Object = t.channelOf(c).id
 	if c.op() == send {
-		r.Kind = 1
+		r.Kind = trace.IsSend
 	}
 	return r
 }

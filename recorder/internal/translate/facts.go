@@ -23,6 +23,9 @@ const (
 	isKin           // it is in a package some functions of which have private orders, as where that sets up its memory
 )
 
+// unknownStack are those of a site whose stack nobody knows: it may be the program's own.
+const unknownStack = known | isOwn
+
 // trait is what is known of a call from its function.
 type trait uint16
 
@@ -72,7 +75,7 @@ func (t *Translator) traitsOf(f symbols.Frame) (is trait) {
 	if doesForOthers(pkg) {
 		is |= forOthers
 	}
-	if p := private[pkg]; p != nil {
+	if p := private[pkg]; p != nil && !(t.InTurn && givesPlaces(pkg, rest)) {
 		if !doesForOthers(pkg) {
 			is |= hasKin
 		}
@@ -152,10 +155,7 @@ func (t *Translator) factsOf(stack []uint64) facts {
 		}
 	}
 	if g.calls == 0 {
-		g.facts &^= ofRuntime
-	}
-	if t.Private {
-		g.facts &^= isPrivate | isHidden | beneath | isKin
+		return unknownStack
 	}
 	return g.facts
 }

@@ -8,7 +8,6 @@ import (
 	"gorace.local/recorder/internal/hooklog"
 	"gorace.local/recorder/internal/hooklog/hooklogtest"
 	"gorace.local/recorder/internal/symbols"
-	"gorace.local/recorder/internal/trace"
 )
 
 const root = "/usr/lib/go"
@@ -47,7 +46,7 @@ func newProgramOf(t testing.TB, chunks int, o Options) *program {
 	t.Cleanup(func() { w.Close(); r.Close() })
 	p := &program{t: t, w: w, r: r, frames: map[uint64][]symbols.Frame{}, sites: map[string]uint32{},
 		names: map[uint64]string{}, begins: map[uint64]uint64{}}
-	o.Base, o.GOROOT, o.Namer = "/home/p", root, p
+	o.Base, o.GOROOT, o.Namer, o.Trace.Version = "/home/p", root, p, 2
 	p.f = follow(r, p, o)
 	p.main = w.Goroutine(1)
 	return p
@@ -109,8 +108,9 @@ func (p *program) texts(ended bool) (texts []string) {
 // text is the trace of a segment.
 func (p *program) text(s *Segment) string {
 	p.t.Helper()
+	p.f.Name(s)
 	var b strings.Builder
-	if _, err := trace.Write(s.Records, p.f.Table(), trace.Options{Version: 2}, &b); err != nil {
+	if _, err := s.Trace.Write(&b); err != nil {
 		p.t.Fatal(err)
 	}
 	return b.String()
@@ -163,8 +163,9 @@ func (f *follower) next(ended bool) (*Segment, error) {
 		if !ended {
 			return nil, nil
 		}
-		f.over = true
-		return f.Segment(true), nil
+		s := f.Segment(true)
+		f.over = s.Last
+		return s, nil
 	}
 	return nil, nil
 }

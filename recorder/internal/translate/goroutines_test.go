@@ -45,7 +45,7 @@ func TestStarts(t *testing.T) {
 	}
 	starts := func(ended bool) map[string][]trace.Start {
 		s := p.f.Segment(ended)
-		sum, err := trace.Write(s.Records, p.f.Table(), trace.Options{Version: 2}, &strings.Builder{})
+		sum, err := s.Trace.Write(&strings.Builder{})
 		if err != nil {
 			t.Fatal(err)
 		}

@@ -17,10 +17,15 @@ type heap struct {
 
 func (h *heap) empty() { h.objects, h.sorted, h.last = h.objects[:0], false, nil }
 
+// take takes the objects that were told.
+func (h *heap) take(told *[2][]heapObject) {
+	h.objects = append(append(h.objects[:0], told[1]...), told[0]...)
+}
+
 // at is the object at an address, as it was told last up to a position; nil if none was.
-func (h *heap) at(addr, pos uint64, told *[2][]heapObject) *heapObject {
+func (h *heap) at(addr, pos uint64) *heapObject {
 	if !h.sorted {
-		h.sort(told)
+		h.sort()
 	}
 	if h.last != nil && addr-h.last.base < h.last.size {
 		return h.last
@@ -40,8 +45,7 @@ func (o *heapObject) told() *Heap {
 	return &Heap{o.base, o.size, uint64(o.typ)}
 }
 
-func (h *heap) sort(told *[2][]heapObject) {
-	h.objects = append(append(h.objects[:0], told[1]...), told[0]...)
+func (h *heap) sort() {
 	sort.Slice(h.objects, func(i, j int) bool {
 		a, b := &h.objects[i], &h.objects[j]
 		return a.base < b.base || a.base == b.base && a.pos < b.pos

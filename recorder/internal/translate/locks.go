@@ -2,16 +2,29 @@ package translate
 
 import (
 	"gorace.local/recorder/internal/hooklog"
-	"gorace.local/recorder/wire"
+	"gorace.local/recorder/internal/trace"
 )
 
 // lock is a Mutex or a RWMutex, up to where another lock is found in its memory.
 type lock struct {
-	declared
-	site      uint32 // with its name
+	id        uint32
 	held      bool
 	readers   uint32
 	exclusive bool // it was locked in this segment, or released
+
+	by   uint32    // one more than the goroutine that has locked it last, 0 where others came to it since
+	row  int       // so many times before it has, with no other one between
+	last [2]uint32 // where the records of the last time are: the lock and the unlock
+}
+
+// in has a goroutine lock the lock, and answers whether the time before is among others in a row.
+func (l *lock) in(by uint32) (among bool) {
+	if l.by == by+1 {
+		l.row++
+	} else {
+		l.by, l.row = by+1, 0
+	}
+	return l.row >= 2
 }
 
 // locks are those of a segment.
@@ -38,9 +51,11 @@ func (t *Translator) lockOf(s *step, kind uint8) *lock {
 }
 
 func (t *Translator) newLock(s *step, kind uint8) *lock {
-	site := t.named(s.site(), KindLock, s.addr())
-	d := t.declare(wire.Record{Op: wire.DeclareLock, Kind: kind, Site: site})
-	t.locks.all = append(t.locks.all, lock{declared: d, site: site})
+	o := trace.Object{Kind: trace.Mutex}
+	if kind == 1 {
+		o.Kind = trace.RWMutex
+	}
+	t.locks.all = append(t.locks.all, lock{id: t.objectAt(o, KindLock, s.site(), s.addr())})
 	return &t.locks.all[len(t.locks.all)-1]
 }
 
@@ -54,36 +69,46 @@ func (t *Translator) overwritten(s *step, kind uint8) *lock {
 func (t *Translator) lock(s *step) {
 	switch s.op() {
 	case hooklog.Lock:
-		t.acquireLock(s, 0, wire.Lock)
+		t.acquireLock(s, 0, trace.Lock)
 	case hooklog.TryLock:
-		t.acquireLock(s, 0, wire.TryLock)
+		t.acquireLock(s, 0, trace.TryLock)
 	case hooklog.WLock:
-		t.acquireLock(s, 1, wire.Lock)
+		t.acquireLock(s, 1, trace.Lock)
 	case hooklog.TryWLock:
-		t.acquireLock(s, 1, wire.TryLock)
+		t.acquireLock(s, 1, trace.TryLock)
 	case hooklog.Unlock:
 		t.releaseLock(s, 0)
 	case hooklog.WUnlock:
 		t.releaseLock(s, 1)
 	case hooklog.RLock:
-		t.acquireRead(s, wire.ReadLock)
+		t.acquireRead(s, trace.ReadLock)
 	case hooklog.TryRLock:
-		t.acquireRead(s, wire.TryReadLock)
+		t.acquireRead(s, trace.TryReadLock)
 	case hooklog.RUnlock:
 		t.releaseRead(s)
 	case hooklog.TryFail:
-		t.note(wire.TryFail, t.lockOf(s, 0).id, s)
+		t.tryFail(s, 0)
 	case hooklog.TryRFail:
-		t.note(wire.TryFail, t.lockOf(s, 1).id, s)
+		t.tryFail(s, 1)
 	}
 }
 
-func (t *Translator) acquireLock(s *step, kind uint8, op wire.Op) {
+func (t *Translator) tryFail(s *step, kind uint8) {
+	l := t.lockOf(s, kind)
+	l.by = 0
+	t.note(trace.TryFail, l.id, s)
+}
+
+func (t *Translator) acquireLock(s *step, kind uint8, op trace.Op) {
 	l := t.lockOf(s, kind)
 	if l.held || l.readers > 0 {
 		l = t.overwritten(s, kind)
 	}
 	l.held, l.exclusive = true, true
+	if l.in(s.by) && t.out[l.last[0]].Op == trace.Lock {
+		t.out[l.last[0]].Kind, t.out[l.last[1]].Kind = trace.IsAmong, trace.IsAmong
+	}
+	l.last[0] = uint32(len(t.out))
 	t.note(op, l.id, s)
 }
 
@@ -91,21 +116,25 @@ func (t *Translator) acquireLock(s *step, kind uint8, op wire.Op) {
 func (t *Translator) releaseLock(s *step, kind uint8) {
 	l := t.lockOf(s, kind)
 	if !l.held && !l.exclusive && l.readers == 0 {
-		t.bring(&l.declared, wire.Lock, l.site, 0)
+		t.bring(l.id, trace.Lock, 0)
 		l.held = true
 	}
 	if l.held {
 		l.held, l.exclusive = false, true
-		t.note(wire.Unlock, l.id, s)
+		if l.last[1] = uint32(len(t.out)); l.by != s.by+1 {
+			l.by = 0
+		}
+		t.note(trace.Unlock, l.id, s)
 	}
 }
 
-func (t *Translator) acquireRead(s *step, op wire.Op) {
+func (t *Translator) acquireRead(s *step, op trace.Op) {
 	l := t.lockOf(s, 1)
 	if l.held {
 		l = t.overwritten(s, 1)
 	}
 	l.readers++
+	l.by = 0
 	t.note(op, l.id, s)
 }
 
@@ -114,11 +143,11 @@ func (t *Translator) acquireRead(s *step, op wire.Op) {
 func (t *Translator) releaseRead(s *step) {
 	l := t.lockOf(s, 1)
 	if l.readers == 0 && !l.exclusive {
-		t.bring(&l.declared, wire.ReadLock, l.site, 0)
+		t.bring(l.id, trace.ReadLock, 0)
 		l.readers++
 	}
 	if l.readers > 0 {
 		l.readers--
-		t.note(wire.ReadUnlock, l.id, s)
+		t.note(trace.ReadUnlock, l.id, s)
 	}
 }

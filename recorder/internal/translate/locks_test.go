@@ -1,9 +1,11 @@
 package translate
 
 import (
+	"strings"
 	"testing"
 
 	"gorace.local/recorder/internal/hooklog"
+	"gorace.local/recorder/internal/trace"
 )
 
 // A lock that is locked while it is held is another one in the same memory. Kinds of locks at one address differ.
@@ -114,9 +116,9 @@ func TestOncesWithinOthers(t *testing.T) {
 	p.main.Do(hooklog.OnceDone, 0x1100, p.at(7))
 	p.want(`
 gotrace 2
-once inner
-once outer
 goroutine g1
+once outer
+once inner
 go main g1 main.go:1
 oncebegin g1 outer main.go:5
 oncebegin g1 inner main.go:4
@@ -125,4 +127,39 @@ onceend g1 outer main.go:5
 oncedone main outer main.go:6
 oncedone main inner main.go:7
 `)
+}
+
+// Where a goroutine holds a lock again and again, with no other one between, the first time and the last order all; but what
+// predicts goes by each. An access in between is still told to hold the lock.
+func TestTimesInARow(t *testing.T) {
+	for predict, want := range map[bool]int{false: 2, true: 4} {
+		p := newProgram(t, Options{Trace: trace.Options{Predict: predict}})
+		p.names[0x1000], p.names[0x2000] = "mu", "n"
+		g := p.main.Go(2, p.at(1))
+		for line := 11; line <= 14; line++ {
+			p.main.Do(hooklog.Lock, 0x1000, p.at(2))
+			p.main.Write(0x2000, p.at(line))
+			p.main.Do(hooklog.Unlock, 0x1000, p.at(3))
+		}
+		g.Do(hooklog.Lock, 0x1000, p.at(4))
+		g.Do(hooklog.TryFail, 0x1000, p.at(5))
+		g.Do(hooklog.Unlock, 0x1000, p.at(6))
+		g.Write(0x2000, p.at(15))
+		if _, err := p.r.Read(p.f.Translator, 1<<20); err != nil {
+			t.Fatal(err)
+		}
+		s := p.f.Segment(true)
+		text := p.text(s)
+		if n := strings.Count(text, "\nlock main "); n != want || strings.Count(text, "\nunlock main ") != want {
+			t.Errorf("predict %v: main locks %d times\n%s", predict, n, text)
+		}
+		event := 1 + strings.Count(text[:strings.Index(text, "main.go:13")], "\n") - strings.Count(text[:strings.Index(text, "\ngo ")+1], "\n")
+		moments, err := s.Trace.Moments(map[int]bool{event: true})
+		if err != nil {
+			t.Fatal(err)
+		}
+		if got := moments[event].String(); got != "after lock of mu at main.go:2" {
+			t.Errorf("predict %v: the third write is %s\n%s", predict, got, text)
+		}
+	}
 }

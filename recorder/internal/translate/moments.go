@@ -10,6 +10,7 @@ type moment struct {
 // moments are those that accesses may be about. Most of a segment's have numbers close to one another.
 type moments struct {
 	all    []moment
+	before []moment // those of the segment that was made last
 	ids    []uint32
 	base   uint32   // the first number that has a slot
 	slots  []uint32 // from there: one more than where a moment is in the list
@@ -67,7 +68,7 @@ func (t *Translator) goesOn(m *moment) bool {
 // carryMoments leaves those that accesses of later segments may be about: what comes behind the last step, or goes on there.
 func (t *Translator) carryMoments(last uint64) {
 	all, ids := t.all, t.ids
-	t.all, t.ids, t.slots = t.all[:0], t.ids[:0], t.slots[:0]
+	t.moments.before, t.all, t.ids, t.slots = all, t.moments.before[:0], t.ids[:0], t.slots[:0]
 	t.others.empty()
 	if t.base = 1; t.most > stillUsed {
 		t.base = t.most - stillUsed

@@ -4,6 +4,7 @@ import (
 	"strings"
 
 	"gorace.local/recorder/internal/symbols"
+	"gorace.local/recorder/internal/trace"
 )
 
 // Kind is what an object is.
@@ -17,6 +18,7 @@ const (
 	KindAtomic // what is ordered by atomic operations
 	KindOrder  // what the library orders
 	KindWake   // of a Cond
+	kindVariable
 	kinds
 )
 
@@ -65,7 +67,7 @@ type objectName struct {
 
 // part answers the object of the heap at an address, and what part of it that is.
 func (t *Translator) part(addr, pos uint64) (*heapObject, partOf) {
-	h := t.heap.at(addr, pos, &t.store.told)
+	h := t.heap.at(addr, pos)
 	if h == nil {
 		return nil, partOf{0, addr}
 	}
@@ -89,21 +91,50 @@ func (t *Translator) sizeOf(typ uint32) uint64 {
 	return size
 }
 
-// recent is a name that was asked for in this segment.
-type recent struct {
-	addr uint64
-	site uint32
-	kind Kind
-	is   uint32
+// unnamed is an object that may be asked for its name: where it is used first, and its address, or which variable it is.
+type unnamed struct {
+	id       uint32
+	site     uint32
+	addr     uint64
+	kind     Kind
+	variable uint32
+	gen      uint16
 }
 
-// named is the number of a site in the table with the name of an object that is used there.
-func (t *Translator) named(id uint32, kind Kind, addr uint64) uint32 {
-	r := &t.recent[(addr>>3^uint64(id)*7+uint64(kind))%uint64(len(t.recent))]
-	if r.is == 0 || r.addr != addr || r.site != id || r.kind != kind {
-		*r = recent{addr, id, kind, t.nameOfObject(id, kind, addr)}
+// Name gives the objects of a segment, which is the one that was made last, their names, and makes its trace anew. Who has a segment
+// judged needs no names unless a race is found: to find them takes longer than all else.
+func (t *Translator) Name(s *Segment) {
+	parts := map[uint32]uint32{} // variables that are a part of another one
+	for i := range t.unnamed {
+		switch n := &t.unnamed[i]; n.kind {
+		case kindVariable:
+			if of := t.nameVariable(n); of != n.id {
+				parts[n.id] = of
+			}
+		default:
+			t.objects[n.id].Site = t.nameOfObject(n.site, n.kind, n.addr)
+		}
 	}
-	return r.is
+	of := s.Trace.Recording
+	of.Sites = t.places.table
+	joinParts(of.Records, parts)
+	s.Trace = trace.New(of, t.Trace)
+}
+
+// joinParts has what is recorded of a part be about the variable that it is a part of; an access of several parts is one.
+func joinParts(records []trace.Record, parts map[uint32]uint32) {
+	last := &trace.Record{}
+	for i := range records {
+		r := &records[i]
+		if of, ok := parts[r.Object]; ok {
+			r.Object = of
+		}
+		if r.Op <= trace.Write && r.Op >= trace.Read && len(parts) > 0 && *r == *last {
+			r.Op = trace.None
+			continue
+		}
+		last = r
+	}
 }
 
 func (t *Translator) nameOfObject(id uint32, kind Kind, addr uint64) uint32 {
@@ -152,9 +183,9 @@ func (t *Translator) nameOfVariable(addr uint64, v *variable) (site uint32, begi
 			k.add(0)
 			continue
 		}
-		a := &t.accesses[use-1]
-		m := &t.all[a.moment()]
-		k.add(uint64(m.site)<<16 | a.what&0xffff)
+		u := &t.uses[use-1]
+		m := &t.moments.before[u.at]
+		k.add(uint64(m.site)<<16 | u.what&0xffff&^late)
 		if m.pos > pos {
 			pos = m.pos
 		}
@@ -197,9 +228,9 @@ func (t *Translator) usesOf(v *variable) []Use {
 		if i == 0 {
 			continue
 		}
-		a := &t.accesses[i-1]
-		frames := append([]symbols.Frame(nil), t.framesAt(t.all[a.moment()].site)...)
-		uses = append(uses, Use{a.isWrite(), bytesOf(a.mask()), frames})
+		u := &t.uses[i-1]
+		frames := append([]symbols.Frame(nil), t.framesAt(t.moments.before[u.at].site)...)
+		uses = append(uses, Use{u.isWrite(), bytesOf(u.mask()), frames})
 	}
 	return uses
 }

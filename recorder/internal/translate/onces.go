@@ -2,13 +2,12 @@ package translate
 
 import (
 	"gorace.local/recorder/internal/hooklog"
-	"gorace.local/recorder/wire"
+	"gorace.local/recorder/internal/trace"
 )
 
 // once is a sync.Once, up to where another one begins in its memory.
 type once struct {
-	declared
-	site  uint32
+	id    uint32
 	by    uint32 // who runs its function, among the actors
 	ended bool
 	own   bool // the Do that has run the function hasn't returned yet
@@ -28,9 +27,8 @@ func (l *onces) empty() {
 
 func (t *Translator) newOnce(s *step) *once {
 	t.onces.byKey.set(s.key, uint32(len(t.onces.all)))
-	site := t.named(s.site(), KindOnce, s.addr())
-	d := t.declare(wire.Record{Op: wire.DeclareOnce, Site: site})
-	t.onces.all = append(t.onces.all, once{declared: d, site: site, by: s.by})
+	id := t.objectAt(trace.Object{Kind: trace.Once}, KindOnce, s.site(), s.addr())
+	t.onces.all = append(t.onces.all, once{id: id, by: s.by})
 	return &t.onces.all[len(t.onces.all)-1]
 }
 
@@ -44,7 +42,7 @@ func (t *Translator) once(s *step) {
 	case hooklog.OnceBegin:
 		o = t.newOnce(s)
 		t.who[s.by].open++
-		t.note(wire.OnceBegin, o.id, s)
+		t.note(trace.OnceBegin, o.id, s)
 	case hooklog.OnceEnd:
 		t.endOnce(o, s)
 	case hooklog.OnceDone:
@@ -56,14 +54,14 @@ func (t *Translator) once(s *step) {
 func (t *Translator) endOnce(o *once, s *step) {
 	if o == nil {
 		o = t.newOnce(s)
-		t.early(&o.declared)
-		t.begun = append(t.begun, wire.Record{Op: wire.OnceBegin, Object: o.id, Goroutine: t.number(s.by), Site: o.site})
+		begin := trace.Record{Op: trace.OnceBegin, Object: o.id, Goroutine: t.number(s.by), Site: t.objects[o.id].Site}
+		t.begun = append(t.begun, begin)
 		t.who[s.by].open++
 	}
 	if !o.ended && o.by == s.by {
 		o.ended, o.own = true, true
 		t.who[s.by].open--
-		t.note(wire.OnceEnd, o.id, s)
+		t.note(trace.OnceEnd, o.id, s)
 	}
 }
 
@@ -71,8 +69,8 @@ func (t *Translator) endOnce(o *once, s *step) {
 func (t *Translator) doneOnce(o *once, s *step) {
 	if o == nil {
 		o = t.newOnce(s)
-		t.bring(&o.declared, wire.OnceBegin, o.site, 0)
-		t.bring(&o.declared, wire.OnceEnd, o.site, 0)
+		t.bring(o.id, trace.OnceBegin, 0)
+		t.bring(o.id, trace.OnceEnd, 0)
 		o.ended = true
 	}
 	switch {
@@ -80,6 +78,6 @@ func (t *Translator) doneOnce(o *once, s *step) {
 	case o.by == s.by && o.own:
 		o.own = false
 	default:
-		t.note(wire.OnceDone, o.id, s)
+		t.note(trace.OnceDone, o.id, s)
 	}
 }

@@ -2,7 +2,7 @@ package translate
 
 import (
 	"gorace.local/recorder/internal/hooklog"
-	"gorace.local/recorder/wire"
+	"gorace.local/recorder/internal/trace"
 )
 
 // release is what a goroutine has done up to a point, if another comes after it: only then it has a record.
@@ -52,7 +52,7 @@ func (o *orders) empty() {
 
 // release notes one at an address, of the goroutine with a number.
 func (t *Translator) release(by, site uint32, kind Kind, addr uint64) uint32 {
-	t.put(wire.Record{Goroutine: by})
+	t.put(trace.Record{Goroutine: by})
 	t.orders.releases = append(t.orders.releases, release{addr: addr, at: uint32(len(t.out)), by: by, site: site, kind: kind})
 	return uint32(len(t.orders.releases))
 }
@@ -70,11 +70,11 @@ func (t *Translator) acquire(by, from, site uint32) {
 	}
 	r.last = by + 1
 	if r.id == 0 {
-		r.id = t.object()
+		r.id = t.objectAt(trace.Object{Kind: trace.Order}, r.kind, r.site, r.addr)
 		q := &t.out[r.at-1]
-		q.Op, q.Object, q.Site = wire.Release, r.id, t.named(r.site, r.kind, r.addr)
+		q.Op, q.Object, q.Site = trace.Release, r.id, t.at(r.site)
 	}
-	t.put(wire.Record{Op: wire.Acquire, Object: r.id, Goroutine: by, Site: t.at(site)})
+	t.put(trace.Record{Op: trace.Acquire, Object: r.id, Goroutine: by, Site: t.at(site)})
 }
 
 // acquireAll has a goroutine come after all that counts at an address.
@@ -110,9 +110,9 @@ const mostCost = 1 << 10
 // mergeAll has the goroutine that stands for an address come after all that counts there, and release it as one.
 func (t *Translator) mergeAll(o *ordering, site uint32, addr uint64) {
 	if o.merger == 0 {
-		t.numbered = append(t.numbered, 0)
+		t.numbered = append(t.numbered, "")
 		o.merger = uint32(len(t.numbered))
-		t.starts = append(t.starts, wire.Record{Op: wire.Go, Other: o.merger, Kind: uint8(wire.GoForeign)})
+		t.starts = append(t.starts, trace.Record{Op: trace.Go, Other: o.merger, Kind: uint8(trace.GoForeign)})
 	}
 	t.acquireFrom(o.first, o.merger, site)
 	o.only(t.release(o.merger, site, KindOrder, addr))
@@ -189,13 +189,13 @@ func (t *Translator) accessAtomically(s *step, by uint32, writes bool) {
 	if w == nil {
 		return
 	}
-	op := wire.AtomicRead
+	op := trace.AtomicRead
 	if writes {
-		op = wire.AtomicWrite
+		op = trace.AtomicWrite
 	}
-	for at, end := w.from(mask); at < end; at++ {
-		if v := &t.variables[at]; v.id != 0 {
-			t.put(wire.Record{Op: op, Object: v.id, Goroutine: by, Site: t.at(s.site()), OtherSite: s.site()})
+	for part := w.starts & mask; part != 0; part &= part - 1 {
+		if v := &t.variables[w.first(part)]; v.id != 0 {
+			t.put(trace.Record{Op: op, Object: v.id, Goroutine: by, Site: t.at(s.site()), OtherSite: s.site()})
 		}
 	}
 }
@@ -212,7 +212,7 @@ func (t *Translator) finalizer(at uint32) {
 	by := t.number(at)
 	for i := range t.who {
 		a := &t.who[i]
-		if uint32(i) == at || a.segment != t.segments+1 && (a.ended || a.accesses != t.segments+1 || a.site == 0 && !a.isMain()) {
+		if uint32(i) == at || a.segment != t.attempt && (a.ended || a.accesses != t.attempt || a.site == 0 && !a.isMain()) {
 			continue // it does nothing in the segment, or begins later
 		}
 		t.acquire(by, t.release(t.number(uint32(i)), 0, KindOrder, 0), 0)

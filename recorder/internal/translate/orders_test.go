@@ -181,7 +181,6 @@ func TestAtomicsAndPlainAccesses(t *testing.T) {
 gotrace 2
 goroutine g1
 var high_atomic_g1
-var high
 go main g1 main.go:1
 write g1 high_atomic_g1 0 main.go:12
 read main high_atomic_g1 0 main.go:2
@@ -316,8 +315,8 @@ func TestPrivateMemoryOfTheProgram(t *testing.T) {
 	p.want(`
 gotrace 2
 goroutine g1
-var appended
 var n
+var appended
 go main g1 main.go:1
 read main n 0 main.go:2
 write main appended 1 main.go:3

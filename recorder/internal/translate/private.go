@@ -76,6 +76,12 @@ func (p *privacy) has(name string) bool {
 	return false
 }
 
+// givesPlaces reports whether a function has parallel tests wait for a place. Where there is only one, tests may rely on it that they
+// run one after another.
+func givesPlaces(pkg, name string) bool {
+	return pkg == "testing" && (strings.HasPrefix(name, "(*testContext)") || strings.HasPrefix(name, "(*testState)"))
+}
+
 // doesForOthers reports whether the functions of a package do what another one wants, whose orders count then.
 func doesForOthers(pkg string) bool {
 	switch pkg {

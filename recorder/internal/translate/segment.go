@@ -4,22 +4,32 @@ import (
 	"sort"
 
 	"gorace.local/recorder/internal/hooklog"
-	"gorace.local/recorder/wire"
+	"gorace.local/recorder/internal/trace"
 )
+
+// Segment is what happened in a part of the run.
+type Segment struct {
+	Number int // from 0
+	Trace  *trace.Trace
+	End    string   // why another one follows, "" of the last
+	Cut    string   // for the caller: why nothing more was recorded, though the run went on
+	Last   bool     // the run ends with it
+	Labels []string // of goroutines, by their numbers in the records: what they or their starters were named; "" for none
+}
 
 // segmentState is what is known of a segment while it is made.
 type segmentState struct {
 	memory
-	heap   heap
-	recent [256]recent
+	heap heap
 
-	state    []wire.Record // what stood at the begin, as main makes it
-	starts   []wire.Record // of goroutines that were there
-	begun    []wire.Record // onces that were under way, the innermost last
-	out      []wire.Record // what happened; Nones have no place
-	rooms    rooms         // in this
-	numbered []uint32      // the labels of goroutines that have a number
-	objects  uint32        // numbers of objects
+	objects  []trace.Object
+	unnamed  []unnamed
+	state    []trace.Record // what stood at the begin, as main makes it
+	starts   []trace.Record // of goroutines that were there
+	begun    []trace.Record // onces that were under way, the innermost last
+	out      []trace.Record // what happened; Nones have no place
+	behind   []int          // each step: so many of these
+	numbered []string       // the labels of goroutines that have a number
 	nextCase int
 
 	channels channels
@@ -31,9 +41,9 @@ type segmentState struct {
 func (s *segmentState) empty(records int) {
 	s.memory.empty(records)
 	s.heap.empty()
-	s.recent = [256]recent{}
+	s.objects, s.unnamed = append(s.objects[:0], trace.Object{}), s.unnamed[:0]
 	s.state, s.starts, s.begun, s.out = s.state[:0], s.starts[:0], s.begun[:0], s.out[:0]
-	s.numbered, s.objects, s.nextCase = s.numbered[:0], 0, 0
+	s.behind, s.numbered, s.nextCase = s.behind[:0], s.numbered[:0], 0
 	s.channels.empty()
 	s.locks.empty()
 	s.onces.empty()
@@ -41,37 +51,25 @@ func (s *segmentState) empty(records int) {
 }
 
 // object numbers an object.
-func (s *segmentState) object() uint32 {
-	s.objects++
-	return s.objects
+func (s *segmentState) object(o trace.Object) uint32 {
+	s.objects = append(s.objects, o)
+	return uint32(len(s.objects) - 1)
+}
+
+// objectAt numbers an object that is used first at a site.
+func (t *Translator) objectAt(o trace.Object, kind Kind, site uint32, addr uint64) uint32 {
+	o.Site = t.at(site)
+	id := t.object(o)
+	t.unnamed = append(t.unnamed, unnamed{id: id, kind: kind, site: site, addr: addr})
+	return id
 }
 
 // put appends a record of a step.
-func (s *segmentState) put(r wire.Record) { s.out = append(s.out, r) }
-
-// declare appends a declaration, and answers what of.
-func (s *segmentState) declare(r wire.Record) declared {
-	r.Object = s.object()
-	s.put(r)
-	return declared{id: r.Object, at: uint32(len(s.out))}
-}
-
-// declared is an object's number, and one more than where its declaration stands, or 0 if that is a part of the state.
-type declared struct{ id, at uint32 }
-
-// early has an object be declared among the state at the begin, since it had one then.
-func (s *segmentState) early(d *declared) {
-	if d.at != 0 {
-		s.state = append(s.state, s.out[d.at-1])
-		s.out[d.at-1].Op = wire.None
-		d.at = 0
-	}
-}
+func (s *segmentState) put(r trace.Record) { s.out = append(withRoom(s.out), r) }
 
 // bring appends something that main does at the begin to an object.
-func (s *segmentState) bring(d *declared, op wire.Op, site uint32, value uint64) {
-	s.early(d)
-	s.state = append(s.state, wire.Record{Op: op, Object: d.id, Site: site, Value: value})
+func (s *segmentState) bring(id uint32, op trace.Op, value uint64) {
+	s.state = append(s.state, trace.Record{Op: op, Object: id, Site: s.objects[id].Site, Value: value})
 }
 
 // IsReady reports whether there is enough for a segment: of what was taken, the half could be in it.
@@ -108,61 +106,96 @@ func (t *Translator) accessedBefore(seq uint64) (n int) {
 // mostHeld is how many times a segment's records are held at most, where steps are missing or there are none.
 const mostHeld = 4
 
-// Segment makes a segment of what is there: all steps up to the first that is missing. If the run has ended, it is the
-// last one. Its records are there until the next call.
+// Segment makes a segment of what is there: all steps up to the first that is missing, or to where the trace reaches a limit. If
+// the run has ended, it is the last one that has the last step. Its trace is there until the next call; its objects have no names.
 func (t *Translator) Segment(ended bool) *Segment {
-	n := t.advance()
-	t.segmentState.empty(t.Records)
 	t.places.refresh()
-	s := &Segment{Number: int(t.segments), Last: ended, From: t.store.first, To: t.store.first + uint64(n) - 1}
-	t.cases = sortedCases(t.cases)
-	t.follow(n)
-	rest := t.gather(s, n, ended || n == 0)
-	t.chooseVariables(s, n)
-	t.countRooms(n)
-	t.makeRoom(0)
-	for i := 0; i < n; i++ {
-		t.step(&t.steps[i], t.store.first+uint64(i))
-		t.makeRoom(i + 1)
+	sort.SliceStable(t.cases, func(i, j int) bool { return t.cases[i].seq < t.cases[j].seq })
+	there := t.advance()
+	n := there
+	if t.aim > 0 && t.aim < there {
+		n = t.aim
 	}
-	t.merge(s)
-	t.cut(s, n, rest)
+	s, end := t.try(n, ended && n == there), "as many records as a segment is for"
+	for fits := t.fitting(s); fits > 0 && fits < n; fits = t.fitting(s) {
+		n, t.aim, end = fits, fits, s.Trace.Cut()
+		s = t.try(n, false)
+	}
+	if !s.Last {
+		s.End = end
+	}
+	if t.aim *= 2; t.aim > t.Records {
+		t.aim = 0
+	}
+	t.cut(s, n)
 	t.segments++
 	return s
 }
 
-func sortedCases(cases []numberedStep) []numberedStep {
-	sort.SliceStable(cases, func(i, j int) bool { return cases[i].seq < cases[j].seq })
-	return cases
+// fitting is how many steps have all their records in the trace. Where it has no whole step, what stood at the begin is too much
+// for it already.
+func (t *Translator) fitting(s *Segment) int {
+	front := len(t.state) + len(t.starts) + len(t.begun)
+	if s.Trace.End() == len(s.Trace.Records) {
+		return len(t.behind)
+	}
+	return sort.SearchInts(t.behind, s.Trace.End()-front+1)
+}
+
+// try makes a segment of the first n steps. all: the accesses behind the last one count too.
+func (t *Translator) try(n int, all bool) *Segment {
+	t.attempt++
+	t.segmentState.empty(t.Records)
+	s := &Segment{Number: int(t.segments), Last: all}
+	t.follow(n)
+	t.gather(n, all || n == 0)
+	of := &trace.Recording{Variables: t.chooseVariables(n)}
+	t.sortAccesses(n)
+	for i := 0; i < n; i++ {
+		t.putAccesses(i)
+		t.step(&t.steps[i], t.store.first+uint64(i))
+		t.behind = append(t.behind, len(t.out))
+	}
+	t.putAccesses(n)
+	of.Records, of.Objects, of.Sites = t.withFront(), t.objects, t.places.table
+	s.Trace = trace.New(of, t.Trace)
+	return s
+}
+
+// withFront puts in front of what happened what stood at the begin.
+func (t *Translator) withFront() []trace.Record {
+	for i := len(t.begun) - 1; i >= 0; i-- {
+		t.starts = append(t.starts, t.begun[i])
+	}
+	t.begun = t.begun[:0]
+	front := append(t.state, t.starts...)
+	n := len(t.out)
+	t.out = append(t.out, front...)
+	copy(t.out[len(front):], t.out[:n])
+	copy(t.out, front)
+	return t.out
 }
 
 // cut leaves what later segments have.
-func (t *Translator) cut(s *Segment, n int, rest []access) {
-	for _, label := range t.numbered {
-		if s.Labels == nil {
-			s.Labels = append(s.Labels, t.labelOfMain())
-		}
-		s.Labels = append(s.Labels, t.labelText(label))
+func (t *Translator) cut(s *Segment, n int) {
+	s.Labels = append([]string{""}, t.numbered...)
+	if at, ok := t.byID.get(1); ok {
+		s.Labels[0] = t.who[at].label
 	}
-	t.carryMoments(s.To)
+	t.carryAccesses()
+	t.carryMoments(t.store.first + uint64(n) - 1)
 	t.carrySteps(n)
-	if cap(t.accesses) > 2*t.Records {
-		t.accesses = nil
-	}
-	t.accesses = append(t.accesses[:0], rest...)
 	t.actors.dropEnded()
+	t.heap.take(&t.store.told)
 	t.store.told[0], t.store.told[1] = t.store.told[1][:0], t.store.told[0]
-	t.store.accessed, t.askAgain = 0, 0
-	for i := range t.accesses {
-		t.store.accessed += t.accesses[i].words()
-	}
+	t.askAgain = 0
 }
 
 // carrySteps leaves the steps behind the first n, with their elements and cases.
 func (t *store) carrySteps(n int) {
 	t.steps = t.steps[:copy(t.steps, t.steps[n:])]
 	t.first += uint64(n)
-	t.complete, t.held, t.atomics = 0, len(t.ahead), 0
+	t.complete, t.held, t.atomics = 0, 0, 0
 	var elements []element
 	carry := func(s *step) {
 		op := s.op()
@@ -179,15 +212,6 @@ func (t *store) carrySteps(n int) {
 			t.held++
 		}
 	}
-	ahead := t.ahead
-	t.ahead = t.ahead[:0]
-	for _, s := range ahead {
-		if carry(&s.step); s.seq-t.first < uint64(t.window) {
-			t.place(s.step, s.seq)
-		} else {
-			t.ahead = append(t.ahead, s)
-		}
-	}
 	t.elements = append(t.elements[:0], elements...)
 	cases := t.cases[:0]
 	for _, c := range t.cases {
@@ -196,19 +220,4 @@ func (t *store) carrySteps(n int) {
 		}
 	}
 	t.cases = cases
-}
-
-func (l *actors) labelText(n uint32) string {
-	if int(n) < len(l.labels) {
-		return l.labels[n]
-	}
-	return ""
-}
-
-// labelOfMain is that of the main goroutine.
-func (l *actors) labelOfMain() string {
-	if at, ok := l.byID.get(1); ok {
-		return l.labelText(l.who[at].label)
-	}
-	return ""
 }

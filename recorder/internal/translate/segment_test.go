@@ -1,11 +1,13 @@
 package translate
 
 import (
+	"strings"
 	"testing"
 
 	"gorace.local/recorder/internal/hooklog"
 	"gorace.local/recorder/internal/hooklog/hooklogtest"
 	"gorace.local/recorder/internal/symbols"
+	"gorace.local/recorder/internal/trace"
 )
 
 // A lock and a race of two goroutines: what each does is behind its go.
@@ -88,7 +90,29 @@ write g1 c 1 main.go:5
 `)
 }
 
-// Accesses between the same two steps stand in the order in which they were read.
+// The bytes of an access needn't be neighbours.
+func TestBytesApart(t *testing.T) {
+	p := newProgram(t, Options{})
+	for i := uint64(0); i < 4; i++ {
+		p.names[0x2000+i] = "b" + string(rune('0'+i))
+	}
+	g := p.main.Go(2, p.at(1))
+	p.main.Access(hooklog.Read, 0x2000, 0x55, 0, 1, p.main.Moment(p.at(2)))
+	p.main.Access(hooklog.Read, 0x2000, 0xaa, 0, 1, p.main.Moment(p.at(3)))
+	g.Access(hooklog.Write, 0x2000, 0x04, 0, 1, g.Moment(p.at(4)))
+	g.Access(hooklog.Write, 0x2000, 0x08, 0, 1, g.Moment(p.at(5)))
+	p.want(`
+gotrace 2
+goroutine g1
+var b2
+var b3
+go main g1 main.go:1
+read main b2 0 main.go:2
+read main b3 0 main.go:3
+write g1 b2 1 main.go:4
+write g1 b3 1 main.go:5
+`)
+}
 
 // Memory that is used anew is another variable.
 func TestGenerations(t *testing.T) {
@@ -214,10 +238,10 @@ gotrace 2
 chan c 3
 chan d 3
 once o
-once q
 mutex mu
 rwmutex rw
 goroutine g1
+once q
 send main c 71 main.go:21
 send main c 72 main.go:21
 close main d main.go:23
@@ -244,40 +268,105 @@ unlock main rw main.go:31
 `)
 }
 
-// Words of the heap are variables of their own, since each has generations of its own.
+// Words of the heap are variables of their own, since each has generations of its own, unless all their accesses are the same.
 func TestAValueOnTheHeap(t *testing.T) {
 	p := newProgram(t, Options{})
 	const at = 0xc000010000
 	p.names[at], p.names[at+8], p.begins[at+8] = "text", "text", at
 	g := p.main.Go(2, p.at(1))
-	p.main.Access(hooklog.Write, at, 0xff, 0, 2, p.main.Moment(p.at(2)))
-	g.Access(hooklog.Read, at, 0xff, 0, 2, g.Moment(p.at(3)))
+	p.names[at+16], p.names[at+24], p.begins[at+24] = "bytes", "bytes", at+16
+	p.main.Access(hooklog.Write, at, 0xff, 0, 4, p.main.Moment(p.at(2)))
+	g.Access(hooklog.Read, at, 0xff, 0, 1, g.Moment(p.at(3)))
+	g.Access(hooklog.Read, at+8, 0xff, 0, 1, g.Moment(p.at(4)))
+	g.Access(hooklog.Read, at+16, 0xff, 0, 2, g.Moment(p.at(5)))
 	p.want(`
 gotrace 2
 goroutine g1
 var text
 var text_2
+var bytes
 go main g1 main.go:1
 write main text 1 main.go:2
 write main text_2 1 main.go:2
+write main bytes 1 main.go:2
 read g1 text 1 main.go:3
-read g1 text_2 1 main.go:3
+read g1 text_2 1 main.go:4
+read g1 bytes 1 main.go:5
 `)
 }
 
 // With All also what can't be in a race is told, but not what is only used atomically, or in another segment.
 func TestAll(t *testing.T) {
-	p := newProgram(t, Options{All: true})
+	p := newProgram(t, Options{Trace: trace.Options{All: true}})
 	p.names[0x2000] = "n"
 	g := p.main.Go(2, p.at(1))
 	p.main.Read(0x2000, p.at(2))
 	g.Step(hooklogtest.Step{Op: hooklog.AtomicRMW, Addr: 0x2010, Aux: 8, Site: p.at(3)})
 	p.main.Write(0x2008, p.at(4))
-	if got := p.cut(); got != "gotrace 2\n" {
-		t.Errorf("without All in the trace:\n%s", got)
+	want := "gotrace 2\ngoroutine g1\nvar n\ngo main g1 main.go:1\nread main n 0 main.go:2\n"
+	if got := p.cut(); got != want {
+		t.Errorf("the trace is\n%s", got)
 	}
-	if n := len(p.f.out); n != 3 { // a go, a declaration, a read
-		t.Errorf("%d records: %v", n, p.f.out)
+}
+
+// Words beside one another that all accesses have in common are one variable.
+func TestARow(t *testing.T) {
+	p := newProgram(t, Options{})
+	p.names[0x2000], p.names[0x2010], p.names[0x2018] = "row", "tail", "last"
+	g := p.main.Go(2, p.at(1))
+	p.main.Access(hooklog.Write, 0x2000, 0xff, 0, 4, p.main.Moment(p.at(2)))
+	g.Access(hooklog.Read, 0x2000, 0xff, 0, 3, g.Moment(p.at(3)))
+	g.Access(hooklog.Read, 0x2010, 0xff, 0, 2, g.Moment(p.at(4)))
+	p.want(`
+gotrace 2
+goroutine g1
+var row
+var tail
+var last
+go main g1 main.go:1
+write main row 1 main.go:2
+write main tail 1 main.go:2
+write main last 1 main.go:2
+read g1 row 1 main.go:3
+read g1 tail 1 main.go:3
+read g1 tail 1 main.go:4
+read g1 last 1 main.go:4
+`)
+}
+
+// A segment ends where its trace has no room for more; the next one begins there. What is in neither is lost by no cut.
+func TestALimitOfTraces(t *testing.T) {
+	p := newProgram(t, Options{Trace: trace.Options{Goroutines: 3}})
+	p.names[0x1000], p.names[0x2000] = "mu", "n"
+	for i := uint32(2); i < 7; i++ {
+		g := p.main.Go(i, p.at(1))
+		g.Do(hooklog.Lock, 0x1000, p.at(2))
+		g.Write(0x2000, p.at(int(i)))
+		g.Do(hooklog.Unlock, 0x1000, p.at(3))
+	}
+	events, ends := "", ""
+	for last := false; !last; {
+		if _, err := p.r.Read(p.f.Translator, 1<<20); err != nil {
+			t.Fatal(err)
+		}
+		s := p.f.Segment(true)
+		if last = s.Last; s.Trace.Cut() != "" {
+			t.Errorf("segment %d is cut off: %s", s.Number, s.Trace.Cut())
+		}
+		for _, line := range strings.Split(p.text(s), "\n") {
+			if word, rest, _ := strings.Cut(line, " "); word == "write" {
+				events += rest + "\n"
+			}
+		}
+		ends += s.End + ";"
+	}
+	want := `g1 n 1 main.go:2
+g2 n 2 main.go:3
+g1 n 1 main.go:4
+g2 n 2 main.go:5
+`
+	if events != want || strings.Count(ends, ";") != 3 || strings.Count(ends, "goroutines at once") != 2 {
+		t.Errorf("ends: %s, writes:\n%s", ends, events)
 	}
 }
 
@@ -312,8 +401,8 @@ func TestWrappers(t *testing.T) {
 	p.frames[3] = []symbols.Frame{{Function: "main.f", File: "/home/p/main.go", Line: 12}}
 	p.w.Site(700, 1, 2)
 	p.w.Site(701, 1, 2, 3)
-	if n := p.f.at(700); p.f.Table()[n].Place != "main.go:9" {
-		t.Errorf("the place is %s", p.f.Table()[n].Place)
+	if n := p.f.at(700); p.f.table[n].Place != "main.go:9" {
+		t.Errorf("the place is %s", p.f.table[n].Place)
 	}
 	if got := p.f.Stack(700); len(got) != 2 || got[1].Function != "main.f.func1" {
 		t.Errorf("the stack is %v", got)

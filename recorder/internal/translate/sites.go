@@ -6,8 +6,8 @@ import (
 	"strings"
 
 	"gorace.local/recorder/internal/hooklog"
-	"gorace.local/recorder/internal/sites"
 	"gorace.local/recorder/internal/symbols"
+	"gorace.local/recorder/internal/trace"
 )
 
 // site is what is known of one of the hooks' sites.
@@ -18,8 +18,8 @@ type site struct {
 
 // places are the sites, and the table of what is told of them.
 type places struct {
-	table         *sites.Table
-	numbers       map[placeName]uint32
+	table         []trace.Site
+	numbers       map[trace.Site]uint32
 	objectNames   map[objectName]uint32
 	variableNames table // by their hashes
 	namesAs       []nameAs
@@ -31,27 +31,27 @@ type places struct {
 	listed        []trait           // for each return address how many calls it stands for, then these
 }
 
-// placeName is what a site of the table is found by.
-type placeName struct{ place, name string }
-
 // mostSites is how many sites and names there are at most before a table begins anew.
 const mostSites = 1 << 17
 
 func (p *places) empty() {
-	p.table = sites.New()
-	p.numbers, p.objectNames, p.variableNames, p.namesAs = map[placeName]uint32{}, map[objectName]uint32{}, table{}, nil
+	p.emptyTable()
 	p.sizes = map[uint32]uint64{}
 	p.index = make([]uint32, 1<<hooklog.SiteBits)
-	p.found = []site{{facts: known | isLibrary}}
+	p.found = []site{{facts: unknownStack}}
+}
+
+func (p *places) emptyTable() {
+	p.table = []trace.Site{{Place: "-"}}
+	p.numbers, p.objectNames, p.variableNames, p.namesAs = map[trace.Site]uint32{}, map[objectName]uint32{}, table{}, nil
 }
 
 // refresh begins a new table if this one has many sites, as of segments that are over.
 func (p *places) refresh() {
-	if len(*p.table)+len(p.namesAs)+len(p.objectNames) < mostSites {
+	if len(p.table)+len(p.namesAs)+len(p.objectNames) < mostSites {
 		return
 	}
-	p.table = sites.New()
-	p.numbers, p.objectNames, p.variableNames, p.namesAs = map[placeName]uint32{}, map[objectName]uint32{}, table{}, nil
+	p.emptyTable()
 	for i := range p.found {
 		p.found[i].at = 0
 	}
@@ -127,13 +127,14 @@ func (t *Translator) withoutRoot(file string) string {
 	return strings.TrimPrefix(file, t.GOROOT+"/src/")
 }
 
-// number is that of a site of the table, which has it from now on.
+// numberOf is that of a site of the table, which has it from now on.
 func (p *places) numberOf(place, name string) uint32 {
-	k := placeName{place, name}
-	n, ok := p.numbers[k]
+	s := trace.Site{Place: place, Name: name}
+	n, ok := p.numbers[s]
 	if !ok {
-		n = uint32(p.table.Add(sites.Site{Place: place, Name: name}))
-		p.numbers[k] = n
+		n = uint32(len(p.table))
+		p.numbers[s] = n
+		p.table = append(p.table, trace.Site{Place: trace.PlaceWord(place), Name: name})
 	}
 	return n
 }

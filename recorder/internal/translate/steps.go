@@ -2,12 +2,15 @@ package translate
 
 import (
 	"gorace.local/recorder/internal/hooklog"
-	"gorace.local/recorder/wire"
+	"gorace.local/recorder/internal/trace"
 )
 
-// follow notes of each goroutine its last step in the segment, and whether it has ended. Where a step is about another
-// goroutine, it has from now on that one's place among the actors, or, of what is done for one that waits, one more than that.
+// follow notes of each goroutine its last step in the segment, and whether it has ended.
 func (t *Translator) follow(n int) {
+	for i := range t.who {
+		a := &t.who[i]
+		a.last, a.ended, a.start, a.open, a.finalize = a.before, a.gone, 0, 0, false
+	}
 	for i := range t.steps[:n] {
 		s := &t.steps[i]
 		seq := t.store.first + uint64(i)
@@ -15,23 +18,15 @@ func (t *Translator) follow(n int) {
 		switch op := s.op(); op {
 		case hooklog.Exit:
 			t.who[s.by].ended = true
-		case hooklog.Go:
-			s.setOther(t.actor(s.other()))
 		case hooklog.Meet, hooklog.Edge:
-			other := t.actor(s.other())
-			s.setOther(other)
-			t.who[other].last = seq
+			t.who[s.other()].last = seq
 		case hooklog.Send, hooklog.Receive, hooklog.ReceiveClosed:
 			if s.other() != 0 {
-				other := t.actor(s.other() - 1)
-				s.setOther(other + 1)
-				t.who[other].last = seq
+				t.who[s.other()-1].last = seq
 			}
 		}
 	}
 }
-
-func (s *step) setOther(n uint32) { s.about = s.about&0xff | n<<8 }
 
 // isLeftOut reports whether a step isn't the program's.
 func (t *Translator) isLeftOut(s *step) bool {
@@ -41,7 +36,7 @@ func (t *Translator) isLeftOut(s *step) bool {
 		return f&ofRuntime != 0
 	case op == hooklog.Exit:
 		a := &t.who[s.by]
-		return a.isMain() || a.segment != t.segments+1
+		return a.isMain() || a.segment != t.attempt
 	case op >= hooklog.Send && op <= hooklog.CaseReceive:
 		return f&ofRuntime != 0
 	case op == hooklog.Lock || op == hooklog.Unlock:
@@ -73,7 +68,7 @@ func (t *Translator) step(s *step, seq uint64) {
 		t.exit(s)
 	case op == hooklog.Finalizer:
 		t.who[s.by].finalize = true
-		if t.who[s.by].accesses == t.segments+1 {
+		if t.who[s.by].accesses == t.attempt {
 			t.finalizer(s.by)
 		}
 	case op >= hooklog.Acquire && op <= hooklog.ReleaseAcquire:
@@ -98,20 +93,20 @@ func (t *Translator) step(s *step, seq uint64) {
 // start is a go. If it is the library's, on behalf of the program, the goroutine begins once it does something of the program's.
 func (t *Translator) start(s *step) {
 	child := &t.who[s.other()]
-	if child.isMain() || child.segment == t.segments+1 {
+	if child.isMain() || child.segment == t.attempt {
 		return
 	}
 	child.site, child.foreign = s.site(), t.factsAt(s.site())&isLibrary != 0
-	if child.label == 0 {
+	if child.label == "" {
 		child.label = t.who[s.by].label
 	}
-	r := wire.Record{Site: t.at(s.site()), OtherSite: s.site()}
+	r := trace.Record{Site: t.at(s.site()), OtherSite: s.site()}
 	if child.foreign {
-		r.Kind = uint8(wire.GoForeign)
+		r.Kind = uint8(trace.GoForeign)
 		child.start, child.starter = uint32(len(t.out)+1), s.by
 	} else {
-		child.segment = t.segments + 1
-		r.Op, r.Goroutine = wire.Go, t.number(s.by)
+		child.segment = t.attempt
+		r.Op, r.Goroutine = trace.Go, t.number(s.by)
 		t.give(child)
 		r.Other = child.number
 	}
@@ -128,11 +123,11 @@ func (t *Translator) startSystem(s *step) {
 // exit is the end of a goroutine. One that is in the function of a once, as what is known of it has it, has none.
 func (t *Translator) exit(s *step) {
 	if t.who[s.by].open == 0 {
-		t.note(wire.Exit, 0, s)
+		t.note(trace.Exit, 0, s)
 	}
 }
 
 // note appends a record of a step by its goroutine.
-func (t *Translator) note(op wire.Op, object uint32, s *step) {
-	t.put(wire.Record{Op: op, Object: object, Goroutine: t.number(s.by), Site: t.at(s.site())})
+func (t *Translator) note(op trace.Op, object uint32, s *step) {
+	t.put(trace.Record{Op: op, Object: object, Goroutine: t.number(s.by), Site: t.at(s.site())})
 }

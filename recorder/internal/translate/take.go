@@ -35,11 +35,12 @@ type access struct {
 	when uint64 // the moment, then the generation, then how many words
 }
 
-func (a *access) isWrite() bool  { return hooklog.Op(a.what) == hooklog.Write }
+func (a *access) isWrite() bool  { return hooklog.Op(a.what&^late) == hooklog.Write }
 func (a *access) mask() uint8    { return uint8(a.what >> 8) }
-func (a *access) word() uint64   { return a.what >> 16 }
 func (a *access) moment() uint32 { return uint32(a.when) }
-func (a *access) gen() uint64    { return a.when >> 32 & 0xffff }
+
+// key is that of the first word: its number, and its generation in the low 16 bits.
+func (a *access) key() uint64 { return a.what>>16<<16 | a.when>>32&0xffff }
 
 func (a *access) words() int {
 	if n := int(a.when >> 48); n > 0 {
@@ -51,8 +52,8 @@ func (a *access) words() int {
 // late marks an access whose moment wasn't there when a segment ended.
 const late = 1 << 7
 
-// numbered is a step with its number. That of a case of a default is that of the default.
-type numberedStep struct {
+// caseOf is a case of a default, with the number of that.
+type numberedCase struct {
 	step
 	seq uint64
 }
@@ -61,11 +62,9 @@ type numberedStep struct {
 type store struct {
 	first    uint64 // the number of the first step
 	steps    []step // by their numbers, from the first
-	window   int    // so many of these there may be
-	ahead    []numberedStep
-	complete int // so many are there without a gap
+	complete int    // so many are there without a gap
 	elements []element
-	cases    []numberedStep
+	cases    []numberedCase
 	accesses []access
 	told     [2][]heapObject // of the heap's objects, in this segment and in the one before
 	held     int             // steps
@@ -115,60 +114,75 @@ func (t *Translator) takeMoment(words []uint64) {
 
 // label names a goroutine.
 func (t *Translator) label(by uint32, words []uint64) (n int) {
-	length := int(words[0] >> 8 & 0xff)
-	name := make([]byte, length)
+	name := make([]byte, words[0]>>8&0xff)
 	for i := range name {
 		name[i] = byte(words[2+i/8] >> (i % 8 * 8))
 	}
-	t.nameActor(by, string(name))
-	return 2 + (length+15)/16*2
+	if label := string(name); t.who[by].label != label {
+		t.who[by].label = label
+	}
+	return 2 + (len(name)+15)/16*2
 }
 
 func (t *Translator) takeStep(op hooklog.Op, by uint32, words []uint64) (n int) {
+	n = 4
+	if op == hooklog.Send || op == hooklog.Receive || op == hooklog.Meet || op == hooklog.Edge {
+		n = 6
+	}
+	seq := words[1] & (1<<48 - 1)
+	if seq < t.store.first {
+		return n
+	}
 	s := step{
 		key:   words[0]&^0xffff | words[1]>>48,
 		value: words[3],
 		what:  uint32(op) | uint32(words[2])<<8,
-		about: uint32(words[0]>>8)&0xff | uint32(words[2]>>24)<<8,
+		about: uint32(words[0]>>8)&0xff | t.otherOf(op, uint32(words[2]>>24))<<8,
 		by:    by,
 	}
-	n = 4
-	switch op {
-	case hooklog.AtomicLoad, hooklog.AtomicStore, hooklog.AtomicRMW, hooklog.AtomicFail:
+	if op >= hooklog.AtomicLoad && op <= hooklog.AtomicFail {
 		t.atomics++
-	case hooklog.Send, hooklog.Receive, hooklog.Meet, hooklog.Edge:
-		n = 6
+	}
+	if n == 6 {
 		t.elements = append(t.elements, element{words[4], words[5]&1 != 0, uint32(words[5]>>8) & (1<<24 - 1)})
 		s.more = uint32(len(t.elements))
 	}
-	t.keep(s, words[1]&(1<<48-1))
+	t.keep(s, seq)
 	return n
 }
 
-// keep puts a step where its number says. One that is far ahead of the others, as a goroutine's that isn't done with its
-// chunk, waits till its turn comes.
+// otherOf is where the other goroutine that a step is about is among the actors, or, of what is done for one that waits, one
+// more than that.
+func (t *Translator) otherOf(op hooklog.Op, other uint32) uint32 {
+	other &= 1<<24 - 1
+	switch op {
+	case hooklog.Go, hooklog.Meet, hooklog.Edge:
+		return t.actor(other)
+	case hooklog.Send, hooklog.Receive, hooklog.ReceiveClosed:
+		if other != 0 {
+			return t.actor(other-1) + 1
+		}
+	}
+	return other
+}
+
+// mostAhead is how far ahead of the first one a step may be that the hooks have written.
+const mostAhead = 1 << 26
+
+// keep puts a step where its number says.
 func (t *store) keep(s step, seq uint64) {
-	if seq < t.first {
+	at := seq - t.first
+	if at >= mostAhead {
 		return
 	}
 	t.held++
-	at := seq - t.first
-	if at >= uint64(t.window) {
-		t.ahead = append(t.ahead, numberedStep{s, seq})
-		return
-	}
-	t.place(s, seq)
-}
-
-func (t *store) place(s step, seq uint64) {
-	at := int(seq - t.first)
-	for at >= len(t.steps) {
+	for at >= uint64(len(t.steps)) {
 		t.steps = append(withRoom(t.steps), step{})
 	}
 	is := &t.steps[at]
 	switch s.op() {
 	case hooklog.CaseSend, hooklog.CaseReceive:
-		t.cases = append(t.cases, numberedStep{s, seq})
+		t.cases = append(t.cases, numberedCase{s, seq})
 		is.more--
 	case hooklog.Default:
 		s.more += is.more + uint32(s.value)

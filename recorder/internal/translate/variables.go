@@ -4,6 +4,7 @@ import (
 	"math/bits"
 
 	"gorace.local/recorder/internal/hooklog"
+	"gorace.local/recorder/internal/trace"
 )
 
 // A word of memory has a variable for each byte at which some access begins. An access is about those that begin at a byte of
@@ -12,9 +13,16 @@ import (
 // word is eight bytes of memory, as long as nobody uses them anew.
 type word struct {
 	key    uint64 // the word's number, and its generation in the low 16 bits
-	first  uint32 // so many steps of the segment come before all its accesses
+	uses   uint64 // a sum of hashes of what accesses are about it
 	at     uint32 // the first of its variables
 	starts uint8  // the bytes at which they begin
+}
+
+// note notes that an access is about the word.
+func (w *word) note(what uint64) {
+	h := (what + 1) * 0x9E3779B97F4A7C15
+	h = (h ^ h>>29) * 0xBF58476D1CE4E5B9
+	w.uses += h ^ h>>32
 }
 
 // variable is what is known of the accesses of a variable.
@@ -22,8 +30,7 @@ type variable struct {
 	user     uint32    // one more than the first goroutine that accesses it
 	atomicBy uint32    // the same of atomic operations
 	uses     [3]uint32 // one more than where an access is: the first write, the first read, and the last
-	id       uint32    // its number if it is kept
-	site     uint32    // with its name; 0: it is a part of another one
+	id       uint32    // its number if it is kept; of several words that are one variable, the same
 	is       traits
 }
 
@@ -40,29 +47,28 @@ const (
 	usedOpenly  // by the program itself, or written by another part of the library
 	usedOutside // so, and no private function has called for it
 	usedAsMap
-	hasParts // words that have variables of their own otherwise
 )
 
 // memory is what a segment's accesses are about.
 type memory struct {
+	limit     uint64 // the steps from here on come behind the segment's accesses
+	uses      []use
 	words     []word
 	variables []variable
 	byWord    table
 	values    table    // of several words, of which the first isn't kept: which variable stands for it
 	refs      []uint32 // of each word that an access is about, in their order: its place in the list
-	hits      []hit
-	divided   bool // some word has several variables
+	sorted    []uint32 // the accesses, by how many steps come before them
+	ends      []uint32 // where in that list those end that so many steps come before
+	divided   bool     // some word has several variables
 }
-
-// hit is an access of a variable that is kept.
-type hit struct{ access, id uint32 }
 
 // empty forgets all. Of memory that was needed once, for many accesses, some is given back.
 func (m *memory) empty(records int) {
 	if cap(m.refs) > 2*records || cap(m.words) > 2*records {
-		m.words, m.variables, m.refs, m.hits = nil, nil, nil, nil
+		m.words, m.variables, m.refs = nil, nil, nil
 	}
-	m.words, m.variables, m.refs, m.hits, m.divided = m.words[:0], m.variables[:0], m.refs[:0], m.hits[:0], false
+	m.uses, m.words, m.variables, m.refs, m.divided = m.uses[:0], m.words[:0], m.variables[:0], m.refs[:0], false
 	if m.byWord.near == 0 {
 		m.byWord = neighbours(16, 4)
 	}
@@ -103,42 +109,65 @@ func (v *variable) use(user uint32, write bool, f facts, number uint32) {
 	}
 }
 
-// from are the variables of a word that an access with a mask is about: from begin to end.
-func (w *word) from(mask uint8) (begin, end uint32) {
-	before := w.starts & (mask&-mask - 1)
-	begin = w.at + uint32(bits.OnesCount8(before))
-	return begin, begin + uint32(bits.OnesCount8(w.starts&mask))
+// first is the variable that begins at the first byte of a mask, whose bytes are some at which variables begin. An access is
+// about those for which it is called with less and less of its mask.
+func (w *word) first(mask uint8) uint32 {
+	return w.at + uint32(bits.OnesCount8(w.starts&(mask&-mask-1)))
 }
 
-// chooseVariables finds out which variables several goroutines use in a way that may race, and numbers these.
-func (t *Translator) chooseVariables(s *Segment, n int) {
+// chooseVariables finds out which variables several goroutines use in a way that may race, and numbers these. It answers how
+// many there are.
+func (t *Translator) chooseVariables(n int) (variables int) {
 	t.eachAtomic(n, func(w *word, mask uint8, s *step) {
 		w.starts |= mask & -mask
+		w.note(w.key) // so it is unlike any other
 		t.variables[w.at].useAtomic(s.by+1, s.op())
 	})
-	s.Variables = t.divide()
+	variables = t.divide()
 	t.eachAtomic(n, func(w *word, mask uint8, s *step) {
-		for at, end := w.from(mask); at < end; at++ {
-			t.variables[at].useAtomic(s.by+1, s.op())
+		for part := w.starts & mask; part != 0; part &= part - 1 {
+			t.variables[w.first(part)].useAtomic(s.by+1, s.op())
 		}
 	})
-	for i := range t.words {
-		w := &t.words[i]
-		for at, end := w.from(whole); at < end; at++ {
-			if v := &t.variables[at]; v.user != 0 && (t.All || v.mayRace()) {
-				v.id = t.object()
-			}
+	t.eachVariable(func(w *word, at uint32) {
+		v := &t.variables[at]
+		if v.user == 0 || !t.Trace.All && !v.mayRace() || t.goesWith(w) {
+			return
 		}
-	}
-	t.nameVariables()
+		var o trace.Object
+		if v.is&usedAsMap != 0 {
+			o.Kind = trace.Map
+		}
+		v.id = t.objectAt(o, kindVariable, 0, w.addressOf(at-w.at))
+		n := &t.unnamed[len(t.unnamed)-1]
+		n.variable, n.gen = at, uint16(w.key)
+	})
+	return variables
 }
 
-// whole is the mask of a word.
-const whole = 0xff
+// eachVariable calls f with each variable.
+func (t *Translator) eachVariable(f func(w *word, at uint32)) {
+	for i := range t.words {
+		w := &t.words[i]
+		for at, end := w.at, w.at+uint32(bits.OnesCount8(w.starts)); at < end; at++ {
+			f(w, at)
+		}
+	}
+}
+
+// goesWith reports whether a word has the same accesses as the one before it in memory: then it is a part of that one's variable.
+func (t *Translator) goesWith(w *word) bool {
+	at, ok := t.byWord.get(w.key - 1<<16)
+	if !ok {
+		return false
+	}
+	before := &t.words[at]
+	return w.uses == before.uses && w.starts == before.starts && w.starts&(w.starts-1) == 0
+}
 
 // eachAtomic calls f with each atomic operation of the program on memory that has plain accesses too.
 func (t *Translator) eachAtomic(n int, f func(w *word, mask uint8, s *step)) {
-	if len(t.words) == 0 || t.atomics == 0 {
+	if t.atomics == 0 {
 		return
 	}
 	for i := range t.steps[:n] {
@@ -158,7 +187,7 @@ func (t *Translator) wordOf(s *step) (w *word, mask uint8) {
 	if !ok {
 		return nil, 0
 	}
-	mask = whole
+	mask = 0xff
 	if s.aux() == 4 {
 		mask = 0xf
 	}
@@ -174,7 +203,7 @@ func (t *Translator) divide() (variables int) {
 		variables += n
 		switch {
 		case n <= 1:
-		case t.All || t.variables[i].isContested():
+		case t.Trace.All || t.variables[i].isContested():
 			t.divided = true
 			w.at = uint32(len(t.variables))
 			for ; n > 0; n-- {
@@ -197,19 +226,16 @@ func (v *variable) isContested() bool {
 
 // useParts notes the accesses of words that have several variables.
 func (t *Translator) useParts() {
-	next := 0
-	for i := range t.accesses {
-		a := &t.accesses[i]
-		m := &t.all[a.moment()]
-		for n := a.words(); n > 0; n-- {
-			ref := t.refs[next]
-			next++
+	for i := range t.uses {
+		u := &t.uses[i]
+		m := &t.all[u.at]
+		for _, ref := range t.refsOf(u) {
 			if ref == noWord || t.words[ref].at == ref {
 				continue
 			}
 			w := &t.words[ref]
-			for at, end := w.from(a.mask()); at < end; at++ {
-				t.variables[at].use(m.by+1, a.isWrite(), t.factsAt(m.site), uint32(i+1))
+			for part := w.starts & u.mask(); part != 0; part &= part - 1 {
+				t.variables[w.first(part)].use(m.by+1, u.isWrite(), t.factsAt(m.site), uint32(i+1))
 			}
 		}
 	}
@@ -250,28 +276,22 @@ func (w *word) addressOf(n uint32) uint64 {
 	return w.key>>16<<3 + uint64(bits.TrailingZeros8(starts))
 }
 
-// nameVariables names those that are kept. Parts of one value are one variable if it is a package variable: of other memory nobody
-// knows which words have been used together, since each has a generation of its own.
-func (t *Translator) nameVariables() {
-	for i := range t.words {
-		w := &t.words[i]
-		for at, end := w.from(whole); at < end; at++ {
-			v := &t.variables[at]
-			if v.id == 0 {
-				continue
-			}
-			addr, gen := w.addressOf(at-w.at), w.key&0xffff
-			site, begin := t.nameOfVariable(addr, v)
-			v.site = site
-			if begin == addr || isInHeap(addr) {
-				continue
-			}
-			if first := t.partOf(begin, gen, at); first != v && first.id != 0 {
-				first.is |= hasParts
-				v.id, v.site = first.id, 0
-			}
+// nameVariable names a variable, and answers which one it is a part of, if not itself. Parts of one value are one variable if it is
+// a package variable: of other memory nobody knows which words have been used together, since each has a generation of its own.
+func (t *Translator) nameVariable(n *unnamed) (of uint32) {
+	v := &t.variables[n.variable]
+	site, begin := t.nameOfVariable(n.addr, v)
+	t.objects[n.id].Site = site
+	if begin == n.addr || isInHeap(n.addr) {
+		return n.id
+	}
+	if first := t.partOf(begin, uint64(n.gen), n.variable); first != v && first.id != 0 {
+		v.id = first.id
+		if o := &t.objects[first.id]; o.Kind == trace.Variable {
+			o.Kind = trace.Content
 		}
 	}
+	return v.id
 }
 
 // isInHeap reports whether an address is where a program with hooks has its heap and its stacks.
@@ -296,6 +316,5 @@ func (t *Translator) variableAt(addr, gen uint64) *variable {
 	if w.starts&bit == 0 {
 		return nil
 	}
-	at, _ := w.from(bit)
-	return &t.variables[at]
+	return &t.variables[w.first(bit)]
 }

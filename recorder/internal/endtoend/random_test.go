@@ -112,7 +112,15 @@ func (p *randomProgram) record(t *testing.T, program, judge string, words ...str
 func (p *randomProgram) recordSegments(t *testing.T, program, dir string) (segments map[string]string) {
 	t.Helper()
 	keeper := filepath.Join(dir, "keeper")
-	script := "#!/bin/sh\ncat >" + dir + "/segment.$$\necho 'clean: 0 events, 0 accesses'\n"
+	script := `#!/bin/sh
+cat >` + dir + `/segment.$$
+if grep -q '^var _' ` + dir + `/segment.$$; then # as long as variables have no names
+	rm ` + dir + `/segment.$$
+	echo 'race on _: write by g1 at a.go:1 (event 1), write by g2 at a.go:2 (event 2)'
+	exit 66
+fi
+echo 'clean: 0 events, 0 accesses'
+`
 	if err := os.WriteFile(keeper, []byte(script), 0o755); err != nil {
 		t.Fatal(err)
 	}

@@ -131,7 +131,7 @@ func (t *Translator) chooseVariables(n int) (variables int) {
 	})
 	t.eachVariable(func(w *word, at uint32) {
 		v := &t.variables[at]
-		if v.user == 0 || !t.Trace.All && !v.mayRace() || t.goesWith(w) {
+		if v.user == 0 || v.isPrivate() || !t.Trace.All && !v.mayRace() || t.goesWith(w) {
 			return
 		}
 		var o trace.Object
@@ -253,12 +253,12 @@ func (v *variable) useAtomic(user uint32, op hooklog.Op) {
 	}
 }
 
-// mayRace reports whether several goroutines use a variable, one of them writes it, and it is the program's. What a private
-// function writes is so if the program uses it elsewhere too: not in a Writer, which gets memory of package fmt.
+// isPrivate reports whether a variable is memory of functions whose orders don't count: it is in no race, whatever the trace says.
+func (v *variable) isPrivate() bool { return v.is&usedPrivately != 0 && v.is&usedOpenly == 0 }
+
+// mayRace reports whether several goroutines use a variable, and one of them writes it. What a private function writes counts if
+// the program uses it elsewhere too: not in a Writer, which gets memory of package fmt.
 func (v *variable) mayRace() bool {
-	if v.user == 0 || v.is&usedPrivately != 0 && v.is&usedOpenly == 0 {
-		return false
-	}
 	writes := v.is&written != 0 || v.is&writtenPrivately != 0 && v.is&usedOutside != 0
 	if v.is&several != 0 && writes {
 		return true

@@ -87,9 +87,9 @@ func endWithParent(k *process.Keeper) {
 
 // runTests runs tests, whose output goes where go test reads it. It answers their own status if they failed, or else that of the judge.
 func (s *session) runTests() (int, error) {
-	results := newTestOutput(os.Stdout, s.words)
+	results := newTestOutput(s.out, s.words)
 	var told bytes.Buffer
-	s.out, s.piped = io.MultiWriter(os.Stdout, &told), &lines{to: results.line}
+	s.out, s.piped = io.MultiWriter(s.out, &told), &lines{to: results.line}
 	v := &packageVerdict{Package: s.path, verdict: verdict{Status: unusable}}
 	r, err := s.repeat()
 	if err == nil {

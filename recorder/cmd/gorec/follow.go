@@ -76,8 +76,8 @@ func (l *hookLog) drop() {
 
 // What is written is read each tick, and these get longer while nothing is.
 const (
-	shortTick  = 2 * time.Millisecond
-	longTick   = 20 * time.Millisecond
+	shortTick  = 8 * time.Millisecond
+	longTick   = 32 * time.Millisecond
 	readAtOnce = 1 << 14 // records
 )
 

@@ -3,7 +3,6 @@ package main
 import (
 	"debug/buildinfo"
 	"flag"
-	"os"
 	"os/exec"
 	"path/filepath"
 	"strings"
@@ -86,7 +85,7 @@ func importPathOf(file string, isTest bool) string {
 
 // runProgram runs a program that was built.
 func (s *session) runProgram() (int, error) {
-	events := newEvents(os.Stdout, s.path)
+	events := newEvents(s.out, s.path)
 	if s.json {
 		s.out = &lines{to: events.output}
 		s.notes, s.piped = s.out, &lines{to: events.output}

@@ -38,7 +38,7 @@ func (r *run) judgeSegment(s *translate.Segment, of *hookLog) error {
 		of.name(s)
 	}
 	o, err := r.judgeTrace(s.Trace, path)
-	if err == nil && o.status != 0 && !isNamed {
+	if err == nil && o.status != 0 && !isNamed && (len(o.all()) == 0 || r.isNew(o)) {
 		of.name(s)
 		o, err = r.judgeTrace(s.Trace, path)
 	}

@@ -42,7 +42,7 @@ func (r *recording) begin(k *process.Keeper) (*session, error) {
 	if err != nil {
 		return nil, err
 	}
-	return &session{recording: r, keeper: k, judge: judge, out: os.Stdout, notes: os.Stderr}, nil
+	return &session{recording: r, keeper: k, judge: judge, out: k.Output(os.Stdout), notes: os.Stderr}, nil
 }
 
 // isCalled notes the program's import path. In the names of files a/b and a_b differ.

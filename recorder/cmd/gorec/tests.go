@@ -67,11 +67,12 @@ var notBuilt = regexp.MustCompile(`(?:^|"Output":")FAIL(?:\t|\\t).*\[(?:build|se
 
 // goTest runs go test, and passes on what it tells. It answers failed where go test did, and unusable where a package wasn't built.
 func goTest(k *process.Keeper, cmd *exec.Cmd) (status int, err error) {
+	out := k.Output(os.Stdout)
 	w, finish, err := pipeTo(&lines{to: func(line []byte) error {
 		if notBuilt.Match(line) {
 			status = unusable
 		}
-		_, err := os.Stdout.Write(line)
+		_, err := out.Write(line)
 		return err
 	}})
 	if err != nil {

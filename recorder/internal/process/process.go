@@ -2,6 +2,8 @@
 package process
 
 import (
+	"errors"
+	"io"
 	"os"
 	"os/exec"
 	"os/signal"
@@ -47,6 +49,23 @@ func New() (*Keeper, error) {
 		}
 	}()
 	return k, nil
+}
+
+// output is a file that somebody reads.
+type output struct {
+	*os.File
+	keeper *Keeper
+}
+
+// Output is a file that gorec writes. Where nobody reads it any more, gorec ends at once: the signal alone may come too late.
+func (k *Keeper) Output(f *os.File) io.Writer { return output{f, k} }
+
+func (o output) Write(b []byte) (int, error) {
+	n, err := o.File.Write(b)
+	if errors.Is(err, syscall.EPIPE) {
+		o.keeper.take(syscall.SIGPIPE)
+	}
+	return n, err
 }
 
 // End removes the folder.

@@ -7,10 +7,14 @@ import (
 
 // use is an access of the segment that may matter.
 type use struct {
-	access
 	at   uint32 // where its moment is in the list
-	refs uint32 // where the words that it is about begin, in memory.refs
+	refs uint32 // where the words that it is about begin, in memory.refs; before they are found, which access it is
+	n    uint16 // so many words
+	what uint16 // the low half of access.what
 }
+
+func (u *use) isWrite() bool { return hooklog.Op(u.what&^late) == hooklog.Write }
+func (u *use) mask() uint8   { return uint8(u.what >> 8) }
 
 // phase says whether an access is the segment's.
 type phase uint8
@@ -45,14 +49,15 @@ func (t *Translator) gather(n int, all bool) {
 	}
 	for i := range t.accesses {
 		if at, is := t.phaseOf(&t.accesses[i]); is == within {
-			t.uses = append(withRoom(t.uses), use{access: t.accesses[i], at: at})
+			t.uses = append(withRoom(t.uses), use{at: at, refs: uint32(i)})
 		}
 	}
 	t.findWritten(n)
 	kept := t.uses[:0]
 	for _, u := range t.uses {
-		u.refs = uint32(len(t.refs))
-		if t.look(&u, uint32(len(kept)+1)) {
+		a := &t.accesses[u.refs]
+		u.refs, u.n, u.what = uint32(len(t.refs)), uint16(a.words()), uint16(a.what)
+		if t.look(a.key(), &u, uint32(len(kept)+1)) {
 			kept = append(kept, u)
 		} else {
 			t.refs = t.refs[:u.refs]
@@ -85,9 +90,9 @@ func (t *Translator) carryAccesses() {
 // findWritten finds the words that somebody writes: no other may be in a race.
 func (t *Translator) findWritten(steps int) {
 	for i := range t.uses {
-		if u := &t.uses[i]; u.isWrite() || t.Trace.All {
-			key := u.key()
-			for n := u.words(); n > 0; n, key = n-1, key+1<<16 {
+		if a := &t.accesses[t.uses[i].refs]; a.isWrite() || t.Trace.All {
+			key := a.key()
+			for n := a.words(); n > 0; n, key = n-1, key+1<<16 {
 				t.addWord(key)
 			}
 		}
@@ -125,11 +130,11 @@ func (m *memory) ref(key uint64, before uint32) uint32 {
 	return noWord
 }
 
-// look notes an access of words, and reports whether any of them is written.
-func (t *Translator) look(u *use, number uint32) (matters bool) {
+// look notes an access of words from that with a key on, and reports whether any of them is written.
+func (t *Translator) look(key uint64, u *use, number uint32) (matters bool) {
 	m, mask := &t.all[u.at], u.mask()
-	key, ref, f := u.key(), uint32(noWord), facts(0)
-	for n := u.words(); n > 0; n, key = n-1, key+1<<16 {
+	ref, f := uint32(noWord), facts(0)
+	for n := u.n; n > 0; n, key = n-1, key+1<<16 {
 		ref = t.memory.ref(key, ref)
 		t.refs = append(t.refs, ref)
 		if ref == noWord {
@@ -144,14 +149,14 @@ func (t *Translator) look(u *use, number uint32) (matters bool) {
 		}
 		w := &t.words[ref]
 		w.starts |= mask & -mask
-		w.note(uint64(u.at)<<16 | u.what&^late&0xffff)
+		w.note(uint64(u.at)<<16 | uint64(u.what&^late))
 		t.variables[ref].use(m.by+1, u.isWrite(), f, number)
 	}
 	return matters
 }
 
 // refsOf are where the words are that an access is about.
-func (t *Translator) refsOf(u *use) []uint32 { return t.refs[u.refs : int(u.refs)+u.words()] }
+func (t *Translator) refsOf(u *use) []uint32 { return t.refs[u.refs : u.refs+uint32(u.n)] }
 
 // position is how many steps of the segment come before an access.
 func (t *Translator) position(u *use) int {

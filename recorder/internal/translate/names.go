@@ -185,7 +185,7 @@ func (t *Translator) nameOfVariable(addr uint64, v *variable) (site uint32, begi
 		}
 		u := &t.uses[use-1]
 		m := &t.moments.before[u.at]
-		k.add(uint64(m.site)<<16 | u.what&0xffff&^late)
+		k.add(uint64(m.site)<<16 | uint64(u.what&^late))
 		if m.pos > pos {
 			pos = m.pos
 		}

@@ -65,8 +65,8 @@ type memory struct {
 
 // empty forgets all. Of memory that was needed once, for many accesses, some is given back.
 func (m *memory) empty(records int) {
-	if cap(m.refs) > 2*records || cap(m.words) > 2*records {
-		m.words, m.variables, m.refs = nil, nil, nil
+	if cap(m.refs) > 2*records || cap(m.words) > 2*records || cap(m.uses) > 2*records {
+		m.uses, m.words, m.variables, m.refs, m.sorted = nil, nil, nil, nil, nil
 	}
 	m.uses, m.words, m.variables, m.refs, m.divided = m.uses[:0], m.words[:0], m.variables[:0], m.refs[:0], false
 	if m.byWord.near == 0 {

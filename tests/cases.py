@@ -9,7 +9,8 @@ one after the other:
     -- shell --           what /bin/sh runs, where "$@" is the program with these words: `"$@" > /dev/full`; may be left out
     -- in --              standard input
     -- in escaped --      the same with \\t, \\r, \\x80 and \\\\; a \\ at the end of a line removes its newline
-    -- in repeated --     the same with lines `0..9 * var x{n}`, each of which gives ten; or -- in repeated escaped --
+    -- in repeated --     the same with lines `0..9 * var x{n}`, each of which gives ten; ` / ` parts lines that are repeated
+                          together, as `0..9 * lock w m p / unlock w m p`; or -- in repeated escaped --
     -- in cut 0..8 --     the same, of which the first 0, 1, .. 8 bytes are nine inputs, one for each run
     -- out --             standard output
     -- err --             standard error; may be left out where any will do
@@ -77,7 +78,8 @@ def unescaped(body):
 
 def repeated(body):
     def lines(it):
-        return "".join(it[3].replace("{n}", str(n)) + "\n" for n in range(int(it[1]), int(it[2]) + 1))
+        part = it[3].replace(" / ", "\n") + "\n"
+        return "".join(part.replace("{n}", str(n)) for n in range(int(it[1]), int(it[2]) + 1))
 
     return re.sub(r"^(\d+)\.\.(\d+) \* (.*)\n", lines, body, flags=re.M)
 

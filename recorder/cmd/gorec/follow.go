@@ -33,7 +33,7 @@ func (s *session) newLog(seed string) (*hookLog, error) {
 	l := &hookLog{session: s, path: s.scratch() + ".log"}
 	var err error
 	if s.log == "" {
-		l.reader, err = hooklog.CreateInMemory(l.path, 0)
+		l.reader, err = hooklog.CreateInMemory(l.path)
 	} else {
 		if l.path, err = filepath.Abs(s.log); isFolder(l.path) {
 			l.path = filepath.Join(l.path, s.name+".log")

@@ -23,7 +23,7 @@ const (
 	// DefaultChunks is how many chunks a log has, unless its creator says it: 671 MB.
 	DefaultChunks = 327680
 
-	// ReusedChunks is how many chunks a log in memory has, unless its creator says it. They are used again and again.
+	// ReusedChunks is how many chunks a log in memory has. They are used again and again.
 	ReusedChunks = 65536
 
 	pageSize   = 4096

@@ -1,7 +1,7 @@
 package hooklog
 
 import (
-	"fmt"
+	"errors"
 	"os"
 	"syscall"
 	"unsafe"
@@ -16,23 +16,21 @@ type Log struct {
 	chunks         []uint64
 	mapped         []byte
 	writable       bool
-	at             regions
 }
 
 // Map maps a log that is open, for reading alone where the file can't be written.
 func Map(f *os.File) (*Log, error) {
 	var h Header
 	if _, err := f.ReadAt((*[unsafe.Sizeof(h)]byte)(unsafe.Pointer(&h))[:], 0); err != nil || h.Magic != Magic {
-		return nil, fmt.Errorf("no log of this gorec's hooks")
+		return nil, errors.New("no log of this gorec's hooks")
 	}
 	at := regionsOf(int(h.Chunks))
 	if st, err := f.Stat(); err != nil || h.Chunks == 0 || st.Size() < int64(at.end) {
-		return nil, fmt.Errorf("the log isn't whole")
+		return nil, errors.New("the log isn't whole")
 	}
-	writable := true
 	b, err := syscall.Mmap(int(f.Fd()), 0, at.end, syscall.PROT_READ|syscall.PROT_WRITE, syscall.MAP_SHARED)
-	if err == syscall.EACCES {
-		writable = false
+	writable := err != syscall.EACCES
+	if !writable {
 		b, err = syscall.Mmap(int(f.Fd()), 0, at.end, syscall.PROT_READ, syscall.MAP_SHARED)
 	}
 	if err != nil {
@@ -45,7 +43,8 @@ func Map(f *os.File) (*Log, error) {
 		Sites:    unsafe.Slice((*uint32)(unsafe.Pointer(&b[at.sites])), 1<<SiteBits),
 		Words:    unsafe.Slice((*uint64)(unsafe.Pointer(&b[at.words])), StackWords),
 		chunks:   unsafe.Slice((*uint64)(unsafe.Pointer(&b[at.chunks])), int(h.Chunks)*chunkWords),
-		mapped:   b, writable: writable, at: at,
+		mapped:   b,
+		writable: writable,
 	}, nil
 }
 
@@ -54,6 +53,3 @@ func (l *Log) Unmap() error { return syscall.Munmap(l.mapped) }
 
 // Chunk is a chunk's words.
 func (l *Log) Chunk(slot uint32) []uint64 { return l.chunks[int(slot)*chunkWords:][:chunkWords] }
-
-// chunkAt is where a chunk lies in the file.
-func (l *Log) chunkAt(slot uint32) int64 { return int64(l.at.chunks) + int64(slot)*chunkSize }

@@ -6,46 +6,37 @@ import (
 	"runtime/debug"
 	"sync/atomic"
 	"time"
-	"unsafe"
 )
 
 // Sink takes what a Reader reads.
 type Sink interface {
 	// Take takes whole records that one goroutine wrote one after another, in its stint of that number. The words are
-	// the Reader's again afterwards.
+	// the log's, and may be used again afterwards.
 	Take(goroutine, stint uint32, words []uint64)
 }
 
 // Reader reads a log, also while it is written. Only one goroutine may use it at a time.
 type Reader struct {
-	file   *os.File
-	path   string
-	log    *Log
-	header *Header
-	stack  []uint64
+	file  *os.File
+	log   *Log
+	stack []uint64
 
 	next   uint32 // the first chunk that wasn't begun
 	end    uint32 // this pass goes up to there, lest it never ends while much is written
-	begun  bool   // a pass is
 	open   []openChunk
 	cursor int  // the next one of these
-	whole  bool // the last pass has come to the end
+	whole  bool // no pass is begun
 	passed int  // records of this pass
 
-	reuses   bool      // chunks are given back
-	done     []uint32  // those that were read to their end, and aren't yet
-	stuck    time.Time // since when the program waits for chunks that nobody can give back
-	copying  bool      // memory of the file can't be read
-	buffer   [chunkWords]uint64
-	contents [chunkWords]uint64
+	reuses bool      // chunks are given back
+	done   []uint32  // those that were read to their end, and aren't yet
+	stuck  time.Time // since when the program waits for chunks that nobody can give back
 }
 
 // openChunk is one that may still be written.
 type openChunk struct {
 	slot             uint32
-	at               uint16 // the next word
-	done             bool
-	goesOn           bool // there was too much to read at once
+	at               int // the next word
 	goroutine, stint uint32
 }
 
@@ -68,8 +59,7 @@ func openFile(f *os.File, path string) (*Reader, error) {
 		f.Close()
 		return nil, fmt.Errorf("%s: %w", path, err)
 	}
-	reuses := log.Header.Reader != 0 && log.writable
-	return &Reader{file: f, path: path, log: log, header: log.Header, reuses: reuses}, nil
+	return &Reader{file: f, log: log, whole: true, reuses: log.Header.Reader != 0 && log.writable}, nil
 }
 
 // Close gives back the memory.
@@ -78,32 +68,23 @@ func (r *Reader) Close() error {
 	return r.file.Close()
 }
 
-// Path is that of the log, or of the link to it.
-func (r *Reader) Path() string { return r.path }
-
 // Header is the log's first page.
-func (r *Reader) Header() *Header { return r.header }
+func (r *Reader) Header() *Header { return r.log.Header }
 
 // Taken is the process that writes the log, 0 before it starts.
-func (r *Reader) Taken() uint32 { return atomic.LoadUint32(&r.header.Taken) }
-
-// Ended reports whether the program has ended by exit or by main's return.
-func (r *Reader) Ended() bool { return atomic.LoadUint32(&r.header.Ended) != 0 }
+func (r *Reader) Taken() uint32 { return atomic.LoadUint32(&r.log.Header.Taken) }
 
 // Full says why recording stopped.
-func (r *Reader) Full() Fullness { return Fullness(atomic.LoadUint32(&r.header.Full)) }
-
-// Steps is the number of the last step.
-func (r *Reader) Steps() uint64 { return atomic.LoadUint64(&r.header.Seq) }
+func (r *Reader) Full() Fullness { return Fullness(atomic.LoadUint32(&r.log.Header.Full)) }
 
 // SetSegment says which segment is gathered from now on.
-func (r *Reader) SetSegment(n uint32) { r.set(&r.header.Segment, n) }
+func (r *Reader) SetSegment(n uint32) { r.set(&r.log.Header.Segment, n) }
 
 // SetSeed asks for extra switches of goroutines. It has to be called before the program starts.
-func (r *Reader) SetSeed(seed uint32) { r.set(&r.header.Seed, seed) }
+func (r *Reader) SetSeed(seed uint32) { r.set(&r.log.Header.Seed, seed) }
 
 // Stop says that no more is wanted.
-func (r *Reader) Stop() { r.set(&r.header.Stop, 1) }
+func (r *Reader) Stop() { r.set(&r.log.Header.Stop, 1) }
 
 func (r *Reader) set(word *uint32, value uint32) {
 	if r.log.writable {
@@ -114,11 +95,8 @@ func (r *Reader) set(word *uint32, value uint32) {
 // Stack are the return addresses of a site, the innermost first; none where it has none, as 0. They are there until the next call.
 func (r *Reader) Stack(site uint32) []uint64 {
 	r.stack = r.stack[:0]
-	if site >= 1<<SiteBits {
-		return nil
-	}
 	err := guard(func() {
-		if at := atomic.LoadUint32(&r.log.Sites[site]); at != 0 {
+		if at := atomic.LoadUint32(&r.log.Sites[site&(1<<SiteBits-1)]); at != 0 {
 			r.stack = append(r.stack, r.log.Words[at:][:r.log.Words[at-1]]...)
 		}
 	})
@@ -131,39 +109,35 @@ func (r *Reader) Stack(site uint32) []uint64 {
 // Whole reports whether the last Read has come to the end of what was there when it began.
 func (r *Reader) Whole() bool { return r.whole }
 
+// fewestBack is how many chunks are given back at once, unless a pass ends.
+const fewestBack = 256
+
 // Read reads some of what wasn't read yet: about as many records as are wanted at most, where one of many words counts as so
 // many. It goes from chunk to chunk in the order in which these were handed out, and begins anew once it has come to the end
 // of the last one.
 func (r *Reader) Read(to Sink, most int) (read int, err error) {
-	if r.whole = false; !r.begun {
-		r.begun, r.end = true, atomic.LoadUint32(&r.header.Announced)
+	if r.whole {
+		r.whole, r.end, r.passed = false, atomic.LoadUint32(&r.log.Header.Announced), 0
 	}
-	for read < most {
-		o := r.current()
-		if o == nil {
-			if err := r.finish(); err != nil {
-				return read, err
+	err = guard(func() {
+		for o := r.current(); o != nil && read < most; o = r.current() {
+			read += r.readChunk(o, to, most-read)
+			isDone := o.at == chunkWords
+			if isDone || read < most { // else there was too much to read at once
+				r.cursor++
 			}
-			break
-		}
-		n, err := r.readChunk(o, to, most-read)
-		if err != nil {
-			return read, err
-		}
-		if read += n; o.goesOn {
-			break
-		}
-		if o.done && r.reuses {
-			r.done = append(r.done, o.slot)
-		}
-		if r.cursor++; len(r.done) >= fewestBack {
-			if err := r.giveBack(); err != nil {
-				return read, err
+			if isDone && r.reuses {
+				r.done = append(r.done, o.slot)
+			}
+			if len(r.done) >= fewestBack {
+				r.giveBack()
 			}
 		}
-	}
-	r.passed += read
-	return read, nil
+		if r.passed += read; read < most {
+			r.finish()
+		}
+	})
+	return read, err
 }
 
 // current is the chunk that is read next, nil at the end of a pass.
@@ -174,47 +148,77 @@ func (r *Reader) current() *openChunk {
 	if r.next == r.end {
 		return nil
 	}
-	entry := atomic.LoadUint32(&r.log.Announce[r.next%r.header.Chunks])
-	if entry == 0 || entry > r.header.Chunks {
-		return nil // not yet
-	}
+	entry := r.log.Announce[r.next%r.log.Header.Chunks]
 	r.next++
 	r.open = append(r.open, openChunk{slot: entry - 1})
 	return &r.open[r.cursor]
 }
 
+// readChunk hands on what a chunk has now, up to so many records.
+func (r *Reader) readChunk(o *openChunk, to Sink, most int) (read int) {
+	chunk := r.log.Chunk(o.slot)
+	for from := o.at; ; {
+		first := uint64(Nothing)
+		if o.at < chunkWords && read < most {
+			first = atomic.LoadUint64(&chunk[o.at])
+		}
+		op, end := Op(first), o.at+2*units(first)
+		if op > Switch && op < Pad && end <= chunkWords {
+			read += weight(chunk[o.at:end])
+			o.at = end
+			continue
+		}
+		if from < o.at {
+			to.Take(o.goroutine, o.stint, chunk[from:o.at])
+		}
+		switch op {
+		case Nothing:
+			return read
+		case Switch:
+			o.goroutine, o.stint = uint32(first>>8)&(1<<24-1), uint32(chunk[o.at+1])
+			o.at = end
+		default:
+			o.at = chunkWords
+		}
+		from = o.at
+	}
+}
+
+// weight is what a record counts as.
+func weight(words []uint64) int {
+	if op := Op(words[0]); op == Read || op == Write {
+		if n := int(words[1] >> 48); n > 1 {
+			return n
+		}
+	}
+	return 1
+}
+
 // finish ends a pass: chunks that are done are closed.
-func (r *Reader) finish() error {
+func (r *Reader) finish() {
 	left := r.open[:0]
 	for _, o := range r.open {
-		if !o.done {
+		if o.at < chunkWords {
 			left = append(left, o)
 		}
 	}
-	r.open, r.cursor, r.whole, r.begun = left, 0, true, false
+	r.open, r.cursor, r.whole = left, 0, true
 	r.watch()
-	r.passed = 0
-	return r.giveBack()
+	r.giveBack()
 }
 
-// fewestBack is how many chunks are given back at once, unless a pass ends.
-const fewestBack = 256
-
 // giveBack empties chunks, and gives them back.
-func (r *Reader) giveBack() error {
-	err := guard(func() {
-		for _, slot := range r.done {
-			chunk := r.log.Chunk(slot)
-			for i := range chunk {
-				chunk[i] = 0
-			}
-			freed := atomic.LoadUint32(&r.header.Freed)
-			atomic.StoreUint32(&r.log.Free[freed%r.header.Chunks], slot)
-			atomic.StoreUint32(&r.header.Freed, freed+1)
+func (r *Reader) giveBack() {
+	for _, slot := range r.done {
+		chunk := r.log.Chunk(slot)
+		for i := range chunk {
+			chunk[i] = 0
 		}
-	})
+		freed := atomic.LoadUint32(&r.log.Header.Freed)
+		atomic.StoreUint32(&r.log.Free[freed%r.log.Header.Chunks], slot)
+		atomic.StoreUint32(&r.log.Header.Freed, freed+1)
+	}
 	r.done = r.done[:0]
-	return err
 }
 
 // longestWait is how long a program may wait for a chunk that nobody can give back.
@@ -222,9 +226,9 @@ const longestWait = 2 * time.Second
 
 // watch has a program stop that waits for ever: all chunks are partly written, by goroutines that wait themselves.
 func (r *Reader) watch() {
-	out := atomic.LoadUint32(&r.header.Announced) - atomic.LoadUint32(&r.header.Freed)
+	out := atomic.LoadUint32(&r.log.Header.Announced) - atomic.LoadUint32(&r.log.Header.Freed)
 	switch {
-	case r.passed > 0 || out < r.header.Chunks || !r.reuses:
+	case r.passed > 0 || out < r.log.Header.Chunks || !r.reuses:
 		r.stuck = time.Time{}
 	case r.stuck.IsZero():
 		r.stuck = time.Now()
@@ -233,86 +237,7 @@ func (r *Reader) watch() {
 	}
 }
 
-// readChunk hands on what a chunk has now, up to so many records.
-func (r *Reader) readChunk(o *openChunk, to Sink, most int) (read int, err error) {
-	words, read, err := r.load(o, most)
-	if err != nil {
-		return 0, err
-	}
-	for from := 0; from < len(words); {
-		if Op(words[from]) == Switch {
-			o.goroutine, o.stint = uint32(words[from]>>8)&(1<<24-1), uint32(words[from+1])
-			from += 2
-			continue
-		}
-		end := from
-		for end < len(words) && Op(words[end]) != Switch {
-			end += 2 * units(words[end])
-		}
-		to.Take(o.goroutine, o.stint, words[from:end])
-		from = end
-	}
-	return read, nil
-}
-
-// load copies whole records that a chunk has from its next word on, and counts them.
-func (r *Reader) load(o *openChunk, most int) (words []uint64, read int, err error) {
-	if !r.copying {
-		words, read, err = r.copyWords(o, r.log.Chunk(o.slot), most)
-		if err == nil {
-			return words, read, nil
-		}
-		r.copying = true
-	}
-	contents := (*[chunkSize]byte)(unsafe.Pointer(&r.contents))
-	if _, err := r.file.ReadAt(contents[:], r.log.chunkAt(o.slot)); err != nil {
-		return nil, 0, fmt.Errorf("the log: %w", err)
-	}
-	return r.copyWords(o, r.contents[:], most)
-}
-
-// copyWords copies whole records, or answers an error where memory of the file can't be read.
-func (r *Reader) copyWords(o *openChunk, chunk []uint64, most int) (words []uint64, read int, err error) {
-	n, at := 0, int(o.at)
-	err = guard(func() {
-		for at < chunkWords && read < most {
-			first := atomic.LoadUint64(&chunk[at])
-			if Op(first) == Nothing {
-				break
-			}
-			end := at + 2*units(first)
-			if Op(first) == Pad || end > chunkWords {
-				at = chunkWords
-				break
-			}
-			n += copy(r.buffer[n:], chunk[at:end])
-			at = end
-			read += weight(r.buffer[n-2*units(first) : n])
-		}
-	})
-	if err != nil {
-		return nil, 0, err
-	}
-	o.at, o.done = uint16(at), at == chunkWords
-	o.goesOn = !o.done && read >= most
-	return r.buffer[:n], read, nil
-}
-
-// weight is what a record counts as.
-func weight(words []uint64) int {
-	switch Op(words[0]) {
-	case Switch:
-		return 0
-	case Read, Write:
-		if n := int(words[1] >> 48); n > 1 {
-			return n
-		}
-	}
-	return 1
-}
-
-// guard answers an error where f meets memory of a file that isn't there: where nothing was written, the system finds room on
-// some disks once that is read, and the disk may be full.
+// guard answers an error where f meets memory of a file that isn't there, as where the file was cut off.
 func guard(f func()) (err error) {
 	defer debug.SetPanicOnFault(debug.SetPanicOnFault(true))
 	defer func() {

@@ -9,7 +9,7 @@ import (
 	"time"
 
 	"gorace.local/recorder/internal/hooklog"
-	"gorace.local/recorder/internal/hooklog/hooklogtest"
+	"gorace.local/recorder/internal/hooklog/testdata/hooklogtest"
 )
 
 // told is what a Reader tells, as text.
@@ -29,7 +29,11 @@ func (c *counting) Take(_, _ uint32, words []uint64) {
 
 func newLog(t testing.TB, chunks int, reader bool) (*hooklogtest.Writer, *hooklog.Reader) {
 	t.Helper()
-	path := filepath.Join(t.TempDir(), "log")
+	return newLogAt(t, filepath.Join(t.TempDir(), "log"), chunks, reader)
+}
+
+func newLogAt(t testing.TB, path string, chunks int, reader bool) (*hooklogtest.Writer, *hooklog.Reader) {
+	t.Helper()
 	if err := hooklog.Create(path, chunks, reader); err != nil {
 		t.Fatal(err)
 	}
@@ -100,14 +104,15 @@ func TestChunksGoRound(t *testing.T) {
 
 // Without a reader nothing is given back, and what is there can be read again.
 func TestReadTwice(t *testing.T) {
-	w, r := newLog(t, 4, false)
+	path := filepath.Join(t.TempDir(), "log")
+	w, r := newLogAt(t, path, 4, false)
 	g := w.Goroutine(1)
 	for i := 0; i < 4*63; i++ {
 		g.Do(hooklog.Lock, 0x1000, 5)
 	}
 	var c counting
 	read(t, r, &c, 1000)
-	again, err := hooklog.Open(r.Path())
+	again, err := hooklog.Open(path)
 	if err != nil {
 		t.Fatal(err)
 	}
@@ -175,9 +180,10 @@ func TestStacks(t *testing.T) {
 
 // A file that is cut off is an error, and nothing worse.
 func TestACutFile(t *testing.T) {
-	w, r := newLog(t, 4, true)
+	path := filepath.Join(t.TempDir(), "log")
+	w, r := newLogAt(t, path, 4, true)
 	w.Goroutine(1).Do(hooklog.Lock, 0x1000, 5)
-	if err := os.Truncate(r.Path(), 4096*3); err != nil {
+	if err := os.Truncate(path, 4096*3); err != nil {
 		t.Fatal(err)
 	}
 	if _, err := r.Read(&counting{}, 10); err == nil {
@@ -201,7 +207,7 @@ func TestNoLog(t *testing.T) {
 // A log in memory is found by its link, and is gone with its reader.
 func TestInMemory(t *testing.T) {
 	path := filepath.Join(t.TempDir(), "log")
-	r, err := hooklog.CreateInMemory(path, 0)
+	r, err := hooklog.CreateInMemory(path)
 	if err != nil {
 		t.Fatal(err)
 	}
@@ -225,12 +231,13 @@ func TestInMemory(t *testing.T) {
 
 // Who may not write a log may read it.
 func TestReadOnly(t *testing.T) {
-	w, r := newLog(t, 4, true)
+	path := filepath.Join(t.TempDir(), "log")
+	w, _ := newLogAt(t, path, 4, true)
 	w.Goroutine(1).Do(hooklog.Lock, 0x1000, 5)
-	if err := os.Chmod(r.Path(), 0o444); err != nil {
+	if err := os.Chmod(path, 0o444); err != nil {
 		t.Fatal(err)
 	}
-	other, err := hooklog.Open(r.Path())
+	other, err := hooklog.Open(path)
 	if err != nil {
 		t.Fatal(err)
 	}

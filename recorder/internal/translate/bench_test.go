@@ -8,7 +8,7 @@ import (
 	"time"
 
 	"gorace.local/recorder/internal/hooklog"
-	"gorace.local/recorder/internal/hooklog/hooklogtest"
+	"gorace.local/recorder/internal/hooklog/testdata/hooklogtest"
 )
 
 const benchRecords = 4000000

@@ -4,7 +4,7 @@ import (
 	"testing"
 
 	"gorace.local/recorder/internal/hooklog"
-	"gorace.local/recorder/internal/hooklog/hooklogtest"
+	"gorace.local/recorder/internal/hooklog/testdata/hooklogtest"
 )
 
 // onChannel does something with the channel c at 0x1200, with so many values before it in a buffer for capacity.

@@ -6,7 +6,7 @@ import (
 	"testing"
 
 	"gorace.local/recorder/internal/hooklog"
-	"gorace.local/recorder/internal/hooklog/hooklogtest"
+	"gorace.local/recorder/internal/hooklog/testdata/hooklogtest"
 	"gorace.local/recorder/internal/symbols"
 )
 

@@ -8,7 +8,7 @@ import (
 	"testing"
 
 	"gorace.local/recorder/internal/hooklog"
-	"gorace.local/recorder/internal/hooklog/hooklogtest"
+	"gorace.local/recorder/internal/hooklog/testdata/hooklogtest"
 )
 
 // world is a program that does at random what it can do.

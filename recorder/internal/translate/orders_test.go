@@ -6,7 +6,7 @@ import (
 	"testing"
 
 	"gorace.local/recorder/internal/hooklog"
-	"gorace.local/recorder/internal/hooklog/hooklogtest"
+	"gorace.local/recorder/internal/hooklog/testdata/hooklogtest"
 )
 
 // Who acquires comes after what was released there, once; what nobody acquires has no record.

@@ -1,4 +1,4 @@
-// Package hooklogtest writes logs as the hooks do, for tests.
+// Package hooklogtest writes logs as the hooks do. It is below testdata since only tests import it.
 package hooklogtest
 
 import (

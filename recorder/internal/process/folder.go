@@ -10,18 +10,6 @@ import (
 // prefix begins the names of gorec's temporary folders, and of no others.
 const prefix = "gorec-run."
 
-// makeFolder makes one, which is locked as long as gorec lives, and removes those that a killed gorec left.
-func (k *Keeper) makeFolder() (err error) {
-	sweep()
-	if k.Folder, err = os.MkdirTemp("", prefix); err != nil {
-		return err
-	}
-	if k.lock, err = locked(k.Folder); err != nil {
-		os.RemoveAll(k.Folder)
-	}
-	return err
-}
-
 // locked locks a folder that nobody else has locked.
 func locked(folder string) (*os.File, error) {
 	f, err := os.Open(folder)
@@ -35,16 +23,16 @@ func locked(folder string) (*os.File, error) {
 	return f, nil
 }
 
-// sweep removes the folders that nobody has locked. One that was just made may be about to be.
+// sweep removes the folders that a killed gorec left: those that nobody has locked. One that was just made may be about to be.
 func sweep() {
 	old, _ := filepath.Glob(filepath.Join(os.TempDir(), prefix+"*"))
-	for _, path := range old {
-		st, err := os.Lstat(path)
+	for _, folder := range old {
+		st, err := os.Lstat(folder)
 		if err != nil || !st.IsDir() || time.Since(st.ModTime()) < time.Minute {
 			continue
 		}
-		if lock, err := locked(path); err == nil {
-			os.RemoveAll(path)
+		if lock, err := locked(folder); err == nil {
+			os.RemoveAll(folder)
 			lock.Close()
 		}
 	}

@@ -37,10 +37,16 @@ const (
 
 // New makes the folder, and takes the signals by which users and machines end programs.
 func New() (*Keeper, error) {
-	k := &Keeper{foreground: inForeground()}
-	if err := k.makeFolder(); err != nil {
+	sweep()
+	folder, err := os.MkdirTemp("", prefix)
+	if err != nil {
 		return nil, err
 	}
+	lock, err := locked(folder)
+	if err != nil {
+		return nil, err
+	}
+	k := &Keeper{Folder: folder, lock: lock, foreground: inForeground()}
 	signals := make(chan os.Signal, 4)
 	signal.Notify(signals, os.Interrupt, syscall.SIGTERM, syscall.SIGHUP, syscall.SIGQUIT, syscall.SIGPIPE)
 	go func() {
@@ -49,6 +55,12 @@ func New() (*Keeper, error) {
 		}
 	}()
 	return k, nil
+}
+
+// End removes the folder.
+func (k *Keeper) End() {
+	os.RemoveAll(k.Folder)
+	k.lock.Close()
 }
 
 // output is a file that somebody reads.
@@ -68,12 +80,6 @@ func (o output) Write(b []byte) (int, error) {
 	return n, err
 }
 
-// End removes the folder.
-func (k *Keeper) End() {
-	os.RemoveAll(k.Folder)
-	k.lock.Close()
-}
-
 // Interrupted reports whether a signal has come: nothing new should begin.
 func (k *Keeper) Interrupted() bool {
 	k.mu.Lock()
@@ -89,30 +95,23 @@ const oneSignal = time.Second
 func (k *Keeper) take(s syscall.Signal) {
 	k.mu.Lock()
 	defer k.mu.Unlock()
+	isFirst, isAnother := k.last.IsZero(), time.Since(k.last) > oneSignal
 	switch {
-	case s == syscall.SIGPIPE, k.running == nil && time.Since(k.last) > oneSignal:
+	case s == syscall.SIGPIPE, k.running == nil && isAnother:
 		k.End()
 		os.Exit(128 + int(s)) // as shells have it
-	case k.last.IsZero():
-		k.handOn(s)
-	case time.Since(k.last) > oneSignal:
-		k.running.Kill()
-	default:
+	case !isAnother:
 		return
-	}
-	k.last = time.Now()
-}
-
-// handOn gives what runs a signal. ^C is for all that it started too, unless the terminal has sent it.
-func (k *Keeper) handOn(s syscall.Signal) {
-	switch {
+	case !isFirst:
+		k.running.Kill()
 	case k.kind == Go:
 		syscall.Kill(-k.running.Pid, syscall.SIGINT)
 	case s != syscall.SIGINT && s != syscall.SIGQUIT:
 		k.running.Signal(s)
-	case !k.foreground:
+	case !k.foreground: // else the terminal has sent it to all that the program started
 		syscall.Kill(-k.running.Pid, s)
 	}
+	k.last = time.Now()
 }
 
 // Run runs a program to its end.
@@ -120,23 +119,22 @@ func (k *Keeper) Run(cmd *exec.Cmd, kind Kind) error {
 	runtime.LockOSThread() // the kernel kills the program where the thread that started it ends
 	defer runtime.UnlockOSThread()
 	cmd.SysProcAttr = attributes(kind != Program || !k.foreground)
-	k.mu.Lock()
+	k.mu.Lock() // a signal waits until it runs
 	err := cmd.Start()
 	if err == nil && kind != Judge {
 		k.running, k.kind = cmd.Process, kind
-		defer k.ended()
 	}
 	k.mu.Unlock()
 	if err != nil {
 		return err
 	}
-	return cmd.Wait()
-}
-
-func (k *Keeper) ended() {
+	err = cmd.Wait()
 	k.mu.Lock()
 	defer k.mu.Unlock()
-	k.running = nil
+	if k.running == cmd.Process {
+		k.running = nil
+	}
+	return err
 }
 
 // inForeground reports whether this process is one of those that a terminal sends ^C to.

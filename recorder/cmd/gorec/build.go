@@ -23,7 +23,7 @@ type builder struct {
 
 // newBuilder finds the Go of this folder, which its go.mod may name, and what its builds need beside the user's flags.
 func newBuilder(k *process.Keeper, user []string) (*builder, error) {
-	tool, err := patch.Find("go", "", nil)
+	tool, err := patch.Find("go")
 	if err != nil {
 		return nil, err
 	}

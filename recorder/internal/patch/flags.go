@@ -1,8 +1,6 @@
 package patch
 
 import (
-	"crypto/sha256"
-	"encoding/hex"
 	"encoding/json"
 	"fmt"
 	"os"
@@ -61,7 +59,8 @@ func withRace(value string) (string, error) {
 	return strings.TrimSpace(pattern + "=" + recorded + " " + strings.TrimSpace(flags)), nil
 }
 
-// merge makes an overlay of gorec's and the user's, beside gorec's.
+// merge makes an overlay of gorec's and the user's, beside gorec's. Its name is that of its content, so that builds side by side
+// don't disturb each other.
 func (s *Set) merge(name, dir string) (string, error) {
 	text, err := os.ReadFile(absolute(dir, name))
 	if err != nil {
@@ -85,30 +84,9 @@ func (s *Set) merge(name, dir string) (string, error) {
 		}
 		all[from] = to
 	}
-	return s.keepMerged(all)
-}
-
-// keepMerged writes an overlay under a name that its content gives, so that builds side by side don't disturb each other.
-func (s *Set) keepMerged(replaced map[string]string) (string, error) {
-	text, err := json.MarshalIndent(overlay{replaced}, "", "\t")
-	if err != nil {
-		return "", fmt.Errorf("-overlay: %w", err)
-	}
-	sum := sha256.Sum256(text)
-	file := filepath.Join(filepath.Dir(s.File), "overlay-"+hex.EncodeToString(sum[:8])+".json")
-	draft, err := os.CreateTemp(filepath.Dir(file), "draft-")
-	if err != nil {
-		return "", fmt.Errorf("-overlay: %w", err)
-	}
-	defer os.Remove(draft.Name())
-	_, err = draft.Write(append(text, '\n'))
-	if closed := draft.Close(); err == nil {
-		err = closed
-	}
-	if err == nil {
-		err = os.Rename(draft.Name(), file)
-	}
-	if err != nil {
+	merged := encoded(all)
+	file := filepath.Join(filepath.Dir(s.File), "overlay-"+checksum(merged)+".json")
+	if err := write(file, merged); err != nil {
 		return "", fmt.Errorf("-overlay: %w", err)
 	}
 	return file, nil

@@ -18,7 +18,7 @@ var each = flag.Bool("each", false, "build a program with each Go below /usr/lib
 // this is the Go that runs the tests.
 func this(t *testing.T) Toolchain {
 	t.Helper()
-	toolchain, err := Find(filepath.Join(runtime.GOROOT(), "bin", "go"), "", nil)
+	toolchain, err := Find(filepath.Join(runtime.GOROOT(), "bin", "go"))
 	if err != nil {
 		t.Fatal(err)
 	}
@@ -95,7 +95,7 @@ func TestOverlay(t *testing.T) {
 	}
 }
 
-// TestOldOverlays: those of the same Go go once nobody has used them for a day.
+// TestOldOverlays: those that nobody has used for a day go.
 func TestOldOverlays(t *testing.T) {
 	cache := t.TempDir()
 	set, err := Overlay(this(t), cache)
@@ -103,11 +103,8 @@ func TestOldOverlays(t *testing.T) {
 		t.Fatal(err)
 	}
 	folder := filepath.Base(filepath.Dir(set.File))
-	prefix, _, _ := strings.Cut(folder, "-")
 	long := time.Now().Add(-2 * keep)
-	for name, age := range map[string]time.Time{
-		prefix + "-old": long, prefix + "-new": time.Now(), "another-old": long, "draft-old": long, "draft-new": time.Now(),
-	} {
+	for name, age := range map[string]time.Time{"old": long, "new": time.Now()} {
 		if err := os.Mkdir(filepath.Join(cache, name), 0o755); err != nil {
 			t.Fatal(err)
 		}
@@ -121,7 +118,7 @@ func TestOldOverlays(t *testing.T) {
 	if _, err = Overlay(this(t), cache); err != nil {
 		t.Fatal(err)
 	}
-	checkFolders(t, cache, folder, prefix+"-new", "another-old", "draft-new")
+	checkFolders(t, cache, folder, "new")
 
 	// what is there is touched, so that it stays for whoever uses it
 	if err := os.Chtimes(filepath.Dir(set.File), long, long); err != nil {
@@ -161,7 +158,7 @@ func installed(t *testing.T) []Toolchain {
 	}
 	all := []Toolchain{this(t)}
 	for _, command := range commands {
-		toolchain, err := Find(command, "", nil)
+		toolchain, err := Find(command)
 		if err != nil {
 			t.Fatal(err)
 		}

@@ -66,7 +66,7 @@ func abigen_sync_atomic_LoadInt32(addr *int32) (val int32)
 const raceGoPatched = `package runtime
 
 import (
-
+	"internal/abi"; "runtime/internal/atomic"
 	"unsafe"
 )
 
@@ -121,24 +121,20 @@ func racereadrangepc(addr unsafe.Pointer, sz, callpc, pc uintptr) {
 func abigen_sync_atomic_LoadInt32(addr *int32) (val int32)
 `
 
-// own is what gorec's files have.
-func own(t *testing.T) map[string]bool {
+// patchSmall patches a race.go as that of Go 1.19, without what comes behind it.
+func patchSmall(t *testing.T, text string) (*source, error) {
 	t.Helper()
-	ours, err := ownFiles(19)
+	own, err := hooksFor(19)
 	if err != nil {
 		t.Fatal(err)
 	}
-	return defined(ours)
+	own.code = ""
+	s := small(text)
+	return s, s.change(change{rules: raceRules, special: patchRace}, own)
 }
 
 func TestRaceGo(t *testing.T) {
-	s := small(raceGo)
-	if err := patchRace(s, own(t)); err != nil || s.text != raceGoPatched {
-		t.Errorf("%v, got:\n%s", err, s.text)
-	}
-	abi := "\tif kind == abi.Array {}\n\treturn\n"
-	s = small(strings.Replace(raceGo, "\treturn\n", abi, 1))
-	if err := patchRace(s, own(t)); err != nil || !strings.Contains(s.text, "\t\"internal/abi\"\n") {
+	if s, err := patchSmall(t, raceGo); err != nil || s.text != raceGoPatched {
 		t.Errorf("%v, got:\n%s", err, s.text)
 	}
 }
@@ -149,31 +145,47 @@ func TestRaceGoRefused(t *testing.T) {
 		{"another use of one", "lock(&raceFiniLock)", "lock(&raceFiniLock); use(&__tsan_fini)", "racefini: a use of the race detector's object"},
 		{"a function in assembly", "func racereadpc(", "func racelookpc(", "racelookpc: the function in assembly isn't known"},
 		{"raceinit", "if !iscgo {", "if iscgo {", "raceinit: "},
+		{"another import", "\t\"unsafe\"\n", "\t\"internal/cpu\"\n\t\"unsafe\"\n", "stands there 0 times, expected once"},
 	}
 	for _, c := range cases {
 		t.Run(c.name, func(t *testing.T) {
-			checkRefusal(t, patchRace(small(strings.Replace(raceGo, c.old, c.new, 1)), own(t)), c.wrong)
+			_, err := patchSmall(t, strings.Replace(raceGo, c.old, c.new, 1))
+			checkRefusal(t, err, c.wrong)
 		})
 	}
 }
 
 func TestAssembly(t *testing.T) {
-	ours := defined([]file{
-		{"runtime/race_amd64.s", "TEXT runtime·recCall<ABIInternal>(SB), NOSPLIT, $0-48\n\tRET\nATOMIC(sync∕atomic·AddInt32, 6, 20)\n"},
-		{"runtime/gorec.go", "func raceread(addr uintptr)\n"},
-	})
+	own := &hooks{assembly: "ours", have: map[string]bool{"raceread": true, "sync∕atomic·AddInt32": true}}
 	theirs := `TEXT	runtime·raceread<ABIInternal>(SB), NOSPLIT, $0-8
 TEXT	racecalladdr<>(SB), NOSPLIT, $0-0
 TEXT	runtime·racecall(SB), NOSPLIT, $0-0
 TEXT	sync∕atomic·AddInt32(SB), NOSPLIT|NOFRAME, $0-20
 `
-	if err := checkAssembly(small(theirs), ours); err != nil {
-		t.Error(err)
+	s := small(theirs)
+	if err := replaceAssembly(s, own); err != nil || s.text != "ours" {
+		t.Errorf("%v: %s", err, s.text)
 	}
 	more := theirs + "TEXT	sync∕atomic·NandInt32(SB), NOSPLIT|NOFRAME, $0-20\n"
-	checkRefusal(t, checkAssembly(small(more), ours), "gorec has no function sync∕atomic.NandInt32")
+	checkRefusal(t, replaceAssembly(small(more), own), "gorec has no function sync∕atomic.NandInt32")
 	more = theirs + "TEXT	runtime·racelook<ABIInternal>(SB), NOSPLIT, $0-8\n"
-	checkRefusal(t, checkAssembly(small(more), ours), "gorec has no function runtime.racelook")
+	checkRefusal(t, replaceAssembly(small(more), own), "gorec has no function runtime.racelook")
+}
+
+// TestHooks: gorec's files have the functions that race.go calls, and those in assembly that have no object.
+func TestHooks(t *testing.T) {
+	own, err := hooksFor(24)
+	if err != nil {
+		t.Fatal(err)
+	}
+	for _, function := range []string{"rec_init", "racefuncenter", "recChan", "sync∕atomic·AddInt32"} {
+		if !own.have[function] {
+			t.Errorf("there is no %s", function)
+		}
+	}
+	if strings.Contains(own.code, "\nimport") || strings.Contains(own.code, "getcallersp") {
+		t.Error("it has imports, or names of another version")
+	}
 }
 
 func TestOwnLayout(t *testing.T) {
@@ -182,7 +194,7 @@ func TestOwnLayout(t *testing.T) {
 		t.Fatal(err)
 	}
 	for _, part := range []string{
-		"package runtime\n", "\tlogMagic = 0x", "type logHeader struct {\n\tMagic ", "\tlogLock logOp = iota + 48\n", "\nfunc logRegionsOf(chunks int) logRegions {\n",
+		"\tlogMagic = 0x", "type logHeader struct {\n\tMagic ", "\tlogLock logOp = iota + 48\n", "\nfunc logRegionsOf(chunks int) logRegions {\n",
 	} {
 		if !strings.Contains(text, part) {
 			t.Errorf("there is no %q in:\n%s", part, text)
@@ -206,7 +218,7 @@ func TestAdapt(t *testing.T) {
 	}{
 		{19, []string{"\"runtime/internal/atomic\"", "getcallersp()", "t.ptrdata"}},
 		{23, []string{"\"internal/runtime/atomic\"", "getcallersp()", "t.PtrBytes"}},
-		{24, []string{"\"internal/runtime/atomic\"", "\t\"internal/runtime/sys\"\n", "sys.GetCallerSP()"}},
+		{24, []string{"\"internal/runtime/atomic\"; \"internal/runtime/sys\"\n", "sys.GetCallerSP()"}},
 	}
 	for _, c := range cases {
 		got := adapt(text, c.minor)
@@ -216,20 +228,4 @@ func TestAdapt(t *testing.T) {
 			}
 		}
 	}
-}
-
-func TestJoinOurs(t *testing.T) {
-	ours := []file{
-		{"runtime/a.go", "//go:build race\n\npackage runtime\n\nimport (\n\t\"internal/abi\"\n\t\"unsafe\"\n)\n\n// a is first.\nvar a int\n"},
-		{"runtime/a.s", "TEXT"},
-		{"runtime/b.go", "package runtime\n\nimport (\n\t\"runtime/internal/atomic\"\n)\n\nvar b int\n"},
-	}
-	s := small("//go:build race\n\npackage runtime\n\nimport (\n\n\t\"unsafe\"\n)\n\nfunc f() {}\n")
-	const want = "//go:build race\n\npackage runtime\n\nimport (\n\t\"internal/abi\"\n\t\"runtime/internal/atomic\"\n\t\"unsafe\"\n)\n\nfunc f() {}\n" +
-		"\n// runtime/a.go\n\n// a is first.\nvar a int\n\n// runtime/b.go\n\nvar b int\n"
-	if err := joinOurs(s, ours); err != nil || s.text != want {
-		t.Errorf("%v, got:\n%s", err, s.text)
-	}
-	ours[0].text = "package runtime\n\nvar a int\n"
-	checkRefusal(t, joinOurs(s, ours), "gorec's own file runtime/a.go has no imports")
 }

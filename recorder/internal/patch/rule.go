@@ -2,6 +2,10 @@ package patch
 
 import (
 	"fmt"
+	"go/ast"
+	"go/parser"
+	"go/token"
+	"go/types"
 	"regexp"
 	"strings"
 )
@@ -11,13 +15,15 @@ type rule struct {
 	in    string // the function, as "chansend" or "(*Mutex).Lock"
 	old   string // a regular expression
 	new   string // what stands in its place; $1 is what the first group matched
-	count int    // how often it stands there; 0: a watch says whether it is all
+	count int    // how often it stands there; 0 is once
 	from  int    // the first minor version of Go that has it, or 0
 	to    int    // the last one, or 0
 }
 
-// anywhere is in place of a function: all of the file.
-const anywhere = ""
+const (
+	anywhere = "" // in place of a function: all of the file
+	several  = -1 // in place of a count: a watch says whether it is all
+)
 
 // A Refusal says why the sources of a Go can't be patched.
 type Refusal struct {
@@ -80,8 +86,12 @@ func (s *source) applyOne(r rule) error {
 		return fmt.Errorf("rule for %s, %s: %w", s.name, r.in, err)
 	}
 	body := s.text[begin:end]
-	if n := len(old.FindAllStringIndex(body, -1)); r.count != 0 && n != r.count {
-		return s.refuse(r.in, "%q stands there %s, expected %s", r.old, times(n), times(r.count))
+	want := r.count
+	if want == 0 {
+		want = 1
+	}
+	if n := len(old.FindAllStringIndex(body, -1)); n != want && want != several {
+		return s.refuse(r.in, "%q stands there %s, expected %s", r.old, times(n), times(want))
 	}
 	s.text = s.text[:begin] + old.ReplaceAllString(body, adapt(r.new, s.minor)) + s.text[end:]
 	return nil
@@ -109,7 +119,7 @@ func (s *source) function(name string) (begin, end int) {
 
 // A watch names calls that have to be known: one that a new version adds may be an order that gorec doesn't tell.
 type watch struct {
-	calls string   // a regular expression whose first group is the call's name
+	calls string   // a regular expression for what is called
 	known []string // the calls that are told, or that tell nothing new
 	but   []string // functions that nobody calls any more
 }
@@ -117,60 +127,50 @@ type watch struct {
 // check refuses a source with a call that isn't known.
 func (s *source) check(w watch) error {
 	calls := regexp.MustCompile(w.calls)
-	code := blankComments(s.text)
-	for _, name := range w.but {
-		if begin, end := s.function(name); begin >= 0 {
-			code = code[:begin] + strings.Repeat(" ", end-begin) + code[end:]
+	return s.inspect(func(in string, n ast.Node) string {
+		call, ok := n.(*ast.CallExpr)
+		if !ok || contains(w.but, in) {
+			return ""
 		}
+		name := types.ExprString(call.Fun)
+		if !calls.MatchString(name) || contains(w.known, name) {
+			return ""
+		}
+		return fmt.Sprintf("the call of %s isn't known", name)
+	})
+}
+
+// inspect refuses a source with a node that visit answers a problem for. It also gets the function that has the node.
+func (s *source) inspect(visit func(in string, n ast.Node) (problem string)) error {
+	f, err := parser.ParseFile(token.NewFileSet(), s.name, s.text, 0)
+	if err != nil {
+		return s.refuse("", "%v", err)
 	}
-	for _, m := range calls.FindAllStringSubmatchIndex(code, -1) {
-		name := code[m[2]:m[3]]
-		if contains(w.known, name) || strings.HasPrefix(lineBefore(code, m[0]), "func ") {
-			continue
+	for _, d := range f.Decls {
+		in, problem := nameOf(d), ""
+		ast.Inspect(d, func(n ast.Node) bool {
+			if problem == "" {
+				problem = visit(in, n)
+			}
+			return problem == ""
+		})
+		if problem != "" {
+			return s.refuse(in, "%s", problem)
 		}
-		return s.refuse(s.functionAt(m[0]), "the call of %s isn't known", name)
 	}
 	return nil
 }
 
-// blankComments has spaces in place of // comments, so that all else stays where it is.
-func blankComments(text string) string {
-	lines := strings.Split(text, "\n")
-	for i, line := range lines {
-		if j := strings.Index(line, "//"); j >= 0 {
-			lines[i] = line[:j] + strings.Repeat(" ", len(line)-j)
-		}
-	}
-	return strings.Join(lines, "\n")
-}
-
-// withoutUnusedImport drops an import that nothing uses any more.
-func withoutUnusedImport(text, path string) string {
-	line := regexp.MustCompile(`\t"` + path + `"(; )?`)
-	without := line.ReplaceAllString(text, "")
-	if strings.Contains(blankComments(without), path[strings.LastIndexByte(path, '/')+1:]+".") {
-		return text
-	}
-	return without
-}
-
-func lineBefore(text string, at int) string {
-	return text[strings.LastIndexByte(text[:at], '\n')+1 : at]
-}
-
-var header = regexp.MustCompile(`(?m)^func (?:\(\w+ (\*?\w+)[^)]*\) )?(\w+)`)
-
-// functionAt names the function around a place.
-func (s *source) functionAt(at int) string {
-	all := header.FindAllStringSubmatch(s.text[:at], -1)
-	if len(all) == 0 {
+// nameOf is a function's name as a rule has it; "" is that of another declaration.
+func nameOf(d ast.Decl) string {
+	f, ok := d.(*ast.FuncDecl)
+	switch {
+	case !ok:
 		return ""
+	case f.Recv == nil:
+		return f.Name.Name
 	}
-	last := all[len(all)-1]
-	if last[1] != "" {
-		return "(" + last[1] + ")." + last[2]
-	}
-	return last[2]
+	return "(" + types.ExprString(f.Recv.List[0].Type) + ")." + f.Name.Name
 }
 
 func contains(list []string, word string) bool {

@@ -39,18 +39,18 @@ func TestRules(t *testing.T) {
 		want  string // a part of the result
 		wrong string // a part of the refusal
 	}{
-		{"in a function", rule{in: "f", old: `racecall\((c)\)`, new: `tell($1, 1)`, count: 1}, "\t\ttell(c, 1)\n", ""},
-		{"in a method", rule{in: "(*M[T]).g", old: `racecall\(c\)`, new: `tell(c)`, count: 1}, "\ttell(c) // and", ""},
+		{"in a function", rule{in: "f", old: `racecall\((c)\)`, new: `tell($1, 1)`}, "\t\ttell(c, 1)\n", ""},
+		{"in a method", rule{in: "(*M[T]).g", old: `racecall\(c\)`, new: `tell(c)`}, "\ttell(c) // and", ""},
 		{"each of several", rule{in: "f", old: `return false`, new: `return true`, count: 2}, "\t\treturn true\n\t}\n\treturn true\n", ""},
-		{"anywhere", rule{in: anywhere, old: `return false`, new: `return true`}, "\t\treturn true\n\t}\n\treturn true\n", ""},
-		{"of a later version", rule{in: "none", old: `x`, count: 1, from: 20}, program, ""},
-		{"of an earlier version", rule{in: "none", old: `x`, count: 1, to: 18}, program, ""},
-		{"no such function", rule{in: "none", old: `x`, count: 1}, "", "p/p.go, none: no such function"},
-		{"no such method", rule{in: "(*M).g", old: `x`, count: 1}, "", "p/p.go, (*M).g: no such function"},
-		{"a function of one line", rule{in: "old", old: `x`, count: 1}, "", "no such function"},
-		{"another text", rule{in: "f", old: `racecall\(d\)`, count: 1}, "", `stands there 0 times, expected once`},
-		{"another count", rule{in: "f", old: `return false`, count: 1}, "", `"return false" stands there 2 times, expected once`},
-		{"another length", rule{in: "f", old: `racecall\(c\)`, new: "a\nb", count: 1}, "", "once it is patched"},
+		{"anywhere", rule{in: anywhere, old: `return false`, new: `return true`, count: several}, "\t\treturn true\n\t}\n\treturn true\n", ""},
+		{"of a later version", rule{in: "none", old: `x`, from: 20}, program, ""},
+		{"of an earlier version", rule{in: "none", old: `x`, to: 18}, program, ""},
+		{"no such function", rule{in: "none", old: `x`}, "", "p/p.go, none: no such function"},
+		{"no such method", rule{in: "(*M).g", old: `x`}, "", "p/p.go, (*M).g: no such function"},
+		{"a function of one line", rule{in: "old", old: `x`}, "", "no such function"},
+		{"another text", rule{in: "f", old: `racecall\(d\)`}, "", `stands there 0 times, expected once`},
+		{"another count", rule{in: "f", old: `return false`}, "", `"return false" stands there 2 times, expected once`},
+		{"another length", rule{in: "f", old: `racecall\(c\)`, new: "a\nb"}, "", "once it is patched"},
 	}
 	for _, c := range cases {
 		t.Run(c.name, func(t *testing.T) {
@@ -82,7 +82,7 @@ func checkRefusal(t *testing.T, err error, wrong string) {
 }
 
 func TestWatch(t *testing.T) {
-	w := watch{calls: `\b(race\w+)\(`, known: []string{"racecall"}, but: []string{"racecall"}}
+	w := watch{calls: `^race\w+$`, known: []string{"racecall"}, but: []string{"racecall"}}
 	if err := small(program).check(w); err != nil {
 		t.Error(err)
 	}
@@ -92,5 +92,5 @@ func TestWatch(t *testing.T) {
 	checkRefusal(t, small(program).check(w), "p/p.go, f: the call of racecall isn't known")
 	method := strings.Replace(program, "// and raceother(c)", "; raceother(c)", 1)
 	w = watch{calls: w.calls, known: []string{"racecall"}, but: []string{"racecall"}}
-	checkRefusal(t, small(method).check(w), "p/p.go, (*M).g: the call of raceother isn't known")
+	checkRefusal(t, small(method).check(w), "p/p.go, (*M[T]).g: the call of raceother isn't known")
 }

@@ -12,10 +12,10 @@ import (
 
 // A Toolchain is an installed Go, as `go env` describes it for a build.
 type Toolchain struct {
-	Root    string // GOROOT
-	Version string // GOVERSION, as go1.19.8
-	OS      string // GOOS of what it builds
-	Arch    string // GOARCH of what it builds
+	Root    string `json:"GOROOT"`
+	Version string `json:"GOVERSION"` // as go1.19.8
+	OS      string `json:"GOOS"`      // of what it builds
+	Arch    string `json:"GOARCH"`
 }
 
 // supported are the versions that the recorder's suites have passed.
@@ -24,21 +24,19 @@ const supported = "go1.19 and go1.21 to go1.27"
 // isSupported reports whether the minor version of Go 1 is one of these.
 func isSupported(minor int) bool { return minor == 19 || minor >= 21 && minor <= 27 }
 
-// Find asks the go command which Go it is. It runs in dir with env, or with this process's environment if env is nil.
-func Find(command, dir string, env []string) (Toolchain, error) {
+// Find asks the go command which Go it is.
+func Find(command string) (t Toolchain, err error) {
 	c := exec.Command(command, "env", "-json", "GOROOT", "GOVERSION", "GOOS", "GOARCH")
-	c.Dir, c.Env = dir, env
 	var complaint bytes.Buffer
 	c.Stderr = &complaint
 	out, err := c.Output()
 	if err != nil {
-		return Toolchain{}, fmt.Errorf("%s env: %w: %s", command, err, strings.TrimSpace(complaint.String()))
+		return t, fmt.Errorf("%s env: %w: %s", command, err, strings.TrimSpace(complaint.String()))
 	}
-	var said struct{ GOROOT, GOVERSION, GOOS, GOARCH string }
-	if err := json.Unmarshal(out, &said); err != nil {
-		return Toolchain{}, fmt.Errorf("%s env: %w", command, err)
+	if err := json.Unmarshal(out, &t); err != nil {
+		return t, fmt.Errorf("%s env: %w", command, err)
 	}
-	return Toolchain{Root: said.GOROOT, Version: said.GOVERSION, OS: said.GOOS, Arch: said.GOARCH}, nil
+	return t, nil
 }
 
 var release = regexp.MustCompile(`^go1\.(\d+)(\.\d+)?([ -].*)?$`)

@@ -110,11 +110,13 @@ func (s *source) function(name string) (begin, end int) {
 	if receiver, method, ok := strings.Cut(name, ")."); ok {
 		pattern = `\(\w+ ` + regexp.QuoteMeta(strings.TrimPrefix(receiver, "(")) + `\) ` + method
 	}
-	all := regexp.MustCompile(`(?sm)^func `+pattern+`\([^\n]*\{\n.*?\n\}\n`).FindAllStringIndex(s.text, -1)
-	if len(all) != 1 {
+	heads := regexp.MustCompile(`\nfunc `+pattern+`\([^\n]*\{\n`).FindAllStringIndex(s.text, -1)
+	if len(heads) != 1 {
 		return -1, -1
 	}
-	return all[0][0], all[0][1]
+	const last = "\n}\n"
+	begin = heads[0][0] + 1
+	return begin, begin + strings.Index(s.text[begin:], last) + len(last)
 }
 
 // A watch names calls that have to be known: one that a new version adds may be an order that gorec doesn't tell.

@@ -12,10 +12,10 @@ import (
 func TestWithoutDebug(t *testing.T) {
 	command := filepath.Join(runtime.GOROOT(), "bin", "go")
 	whole := openBuilt(t, command, "names", nil)
-	for _, flags := range []string{"-w", "-s -w", "-compressdwarf=false"} {
+	for _, flags := range []string{"-w", "-compressdwarf=false"} {
 		p := openBuilt(t, command, "names", []string{"-ldflags=" + flags})
 		for i := 0; i < whole.lines.count; i++ {
-			f, _ := whole.lines.function(i)
+			f := whole.lines.function(i)
 			for _, pc := range []uint64{f.entry + 1, f.entry + 40, f.entry + 170} {
 				got, want := p.Frames(pc), whole.Frames(pc)
 				if !equalFrames(got, want) {
@@ -79,6 +79,10 @@ func TestOpenRefuses(t *testing.T) {
 	empty := filepath.Join(dir, "empty")
 	if err := os.WriteFile(empty, nil, 0o644); err != nil {
 		t.Fatal(err)
+	}
+	stripped := build(t, filepath.Join(runtime.GOROOT(), "bin", "go"), "names", []string{"-ldflags=-s"})
+	if _, err := Open(stripped); err == nil || !strings.Contains(err.Error(), "no symbols, which gorec build leaves in a program") {
+		t.Errorf("a program without symbols: got %v", err)
 	}
 	for _, path := range []string{text, empty, filepath.Join(dir, "none")} {
 		if _, err := Open(path); err == nil || !strings.Contains(err.Error(), filepath.Base(path)) {

@@ -40,19 +40,24 @@ func eachGo(t *testing.T, folder string, flags []string, try func(t *testing.T, 
 
 func openBuilt(t *testing.T, command, folder string, flags []string) *Program {
 	t.Helper()
-	path := filepath.Join(t.TempDir(), "program")
+	p, err := Open(build(t, command, folder, flags))
+	if err != nil {
+		t.Fatal(err)
+	}
+	t.Cleanup(func() { p.Close() })
+	return p
+}
+
+func build(t *testing.T, command, folder string, flags []string) (path string) {
+	t.Helper()
+	path = filepath.Join(t.TempDir(), "program")
 	cmd := exec.Command(command, append(append([]string{"build", "-o", path}, flags...), ".")...)
 	cmd.Dir = filepath.Join("testdata", folder)
 	cmd.Env = append(os.Environ(), "GOTOOLCHAIN=local", "GOFLAGS=-mod=mod", "CGO_ENABLED=0")
 	if out, err := cmd.CombinedOutput(); err != nil {
 		t.Fatalf("%s: %v\n%s", command, err, out)
 	}
-	p, err := Open(path)
-	if err != nil {
-		t.Fatal(err)
-	}
-	t.Cleanup(func() { p.Close() })
-	return p
+	return path
 }
 
 // typeNamed looks for a type among those that package runtime has, and then among all.
@@ -91,13 +96,13 @@ func framesOf(p *Program, pkg, file string) map[int][]Frame {
 	frames := map[int][]Frame{}
 	seen := map[Frame]bool{}
 	for i := 0; i < p.lines.count; i++ {
-		f, ok := p.lines.function(i)
-		if !ok || PackageOf(f.name()) != pkg {
+		f := p.lines.function(i)
+		if PackageOf(f.name) != pkg {
 			continue
 		}
 		end := f.entry + 1<<14
-		if next, ok := p.lines.function(i + 1); ok && i+1 < p.lines.count {
-			end = next.entry
+		if i+1 < p.lines.count {
+			end = p.lines.function(i + 1).entry
 		}
 		for pc := f.entry; pc < end; pc++ {
 			for _, x := range p.framesAt(pc) {

@@ -13,7 +13,6 @@ type debugInfo struct {
 type unit struct {
 	*dwarf.Entry
 	pkg       string
-	code      [][2]uint64 // where its code begins and ends
 	isRead    bool
 	functions map[uint64]*dwarf.Entry // by where their code begins
 	variables map[string]dwarf.Offset // their types, by their names in the package
@@ -45,8 +44,7 @@ func (p *Program) debug() *debugInfo {
 			return p.debugging
 		}
 		if e.Tag == dwarf.TagCompileUnit {
-			code, _ := data.Ranges(e)
-			p.debugging.units = append(p.debugging.units, &unit{Entry: e, pkg: nameOf(e), code: code})
+			p.debugging.units = append(p.debugging.units, &unit{Entry: e, pkg: nameOf(e)})
 		}
 		r.SkipChildren()
 	}
@@ -123,12 +121,12 @@ func (d *debugInfo) read(u *unit) {
 
 // function answers the entry of the function whose code begins at an address, or an empty one.
 func (d *debugInfo) function(begin uint64) *dwarf.Entry {
-	for _, u := range d.units {
-		for _, c := range u.code {
-			if c[0] <= begin && begin < c[1] {
-				d.read(u)
-				if f := u.functions[begin]; f != nil {
-					return f
+	if d.Data != nil {
+		of, err := d.Reader().SeekPC(begin)
+		for _, u := range d.units {
+			if err == nil && u.Offset == of.Offset {
+				if d.read(u); u.functions[begin] != nil {
+					return u.functions[begin]
 				}
 			}
 		}

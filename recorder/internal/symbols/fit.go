@@ -23,11 +23,11 @@ func (p *Program) bestUse(a Access, m *memory) Name {
 		return p.bestAt(frames[0], m, false)
 	}
 	m.calls = frames[:own]
-	n := p.bestAt(frames[own], m, true)
-	if n.rank > noFit {
+	if n := p.bestAt(frames[own], m, true); n.rank > noFit {
 		return n
 	}
-	if n = p.bestAt(frames[0], m, false); n.rank > guess {
+	n := p.bestAt(frames[0], m, false)
+	if n.rank > guess {
 		n.rank = guess // it is what the library calls something of the program's
 	}
 	return n
@@ -45,82 +45,42 @@ func (p *Program) bestAt(f Frame, m *memory, deep bool) Name {
 	if l == nil {
 		return Name{}
 	}
-	var all contest
-	for _, u := range l.usesAt(deep) {
-		all.enter(m.fit(u))
+	l.deep = deep
+	var names []Name
+	for _, u := range l.usesAt() {
+		names = append(names, m.fit(u))
 	}
-	return all.best()
+	return bestOf(names)
 }
 
-// contest finds the best of several words for a piece of memory.
-type contest struct {
-	first candidate
-	tied  bool // another word fits as well
-}
-
-type candidate struct {
-	word  string
-	score int
-	isOwn bool // of a variable of the function
-}
-
-func (t *contest) enter(c candidate) {
-	switch {
-	case c.score > t.first.score:
-		t.first, t.tied = c, false
-	case c.score == t.first.score && c.word != t.first.word:
-		t.tied = true
-	}
-}
-
-// best is the word that fits best, of which the rank tells no more than how it does.
-func (t *contest) best() Name {
-	n := Name{Word: t.first.word, rank: likely}
-	switch score := t.first.score; {
-	case score <= noFit:
-		return Name{}
-	case t.tied || score < guess-5:
-		n.rank = guess
-	case score >= fits && t.first.isOwn:
-		n.rank = declared
-	case score >= fits-20:
-		n.rank = fits
-	}
-	return n
-}
-
-// fit answers how well a use fits the memory, and what this is called by it.
-func (m *memory) fit(u use) candidate {
-	c := candidate{word: u.word, isOwn: u.kind == ownPiece}
+// fit answers what the memory is called by a use, and how well that fits.
+func (m *memory) fit(u use) Name {
+	n := Name{Word: u.word, isOwn: u.kind == ownPiece}
 	switch {
 	case m.isMap && u.kind == mapPiece:
-		c.word, c.score = u.root, declared
+		n.Word, n.rank = u.root, declared
 	case m.isMap && u.typ != nil && u.typ.Kind == reflect.Map:
-		c.score = likely
+		n.rank = likely
 	case u.kind == contentPiece:
-		c.score = m.fitContent(u.home)
-	case m.isMap || m.isField() || u.kind == mapPiece || u.kind == fixedPiece || u.kind == noPiece:
-		return candidate{} // a fixed one's address would tell
-	case u.kind == lostPiece && (m.typ == nil || len(m.steps) == 0 && u.word == u.root):
-		c.score = guess / 2
-	case u.kind == lostPiece:
-		return candidate{}
+		n.rank = m.fitContent(u.home)
+	case m.isMap || m.isField() || u.kind == mapPiece || u.kind == noPiece:
+		return Name{}
 	case m.typ == nil:
-		c.score = m.fitUnknown(u)
+		n.rank = m.fitUnknown(u)
 	case u.home != nil:
-		c.word, c.score = m.fitTypes(u)
+		n.Word, n.rank = m.fitTypes(u)
 	case m.several && u.kind == elementPiece:
-		c.score = likely - 10
+		n.rank = likely - 10
 	default:
-		c.score = guess
+		n.rank = guess
 	}
 	if u.write != m.write {
-		c.score -= 15
+		n.rank -= 15
 	}
 	if u.derived {
-		c.score -= 5
+		n.rank -= 5
 	}
-	return c
+	return n
 }
 
 // fitContent: what methods of an object of Go's library come to, and has no name of its own, belongs to the object.
@@ -129,10 +89,9 @@ func (m *memory) fitContent(home *Type) int {
 		return noFit
 	}
 	for _, f := range m.calls {
-		for _, receiver := range []string{".(*" + home.short() + ").", "." + home.short() + "."} {
-			if strings.HasPrefix(f.Function, home.pkg()+receiver) {
-				return likely - 5
-			}
+		if method := strings.TrimPrefix(f.Function, home.pkg()+"."); strings.HasPrefix(method, home.short()+".") ||
+			strings.HasPrefix(method, "(*"+home.short()+").") {
+			return likely - 5
 		}
 	}
 	return noFit
@@ -140,20 +99,18 @@ func (m *memory) fitContent(home *Type) int {
 
 // fitUnknown goes by the access alone.
 func (m *memory) fitUnknown(u use) int {
-	score := guess
-	if u.typ != nil && m.width > 0 {
-		switch {
-		case u.typ.Size == m.width:
-			score += 15
-		case u.typ.Size < m.width && u.kind != elementPiece:
-			score -= 10
-		}
+	switch {
+	case u.typ == nil || m.width == 0:
+	case u.typ.Size == m.width:
+		return guess + 15
+	case u.typ.Size < m.width && u.kind != elementPiece:
+		return guess - 10
 	}
-	return score
+	return guess
 }
 
 // fitTypes looks for the use's type on the way from the object to the part.
-func (m *memory) fitTypes(u use) (word string, score int) {
+func (m *memory) fitTypes(u use) (word string, rank int) {
 	for i := 0; i <= len(m.steps); i++ {
 		t, isElement := m.typ, i > 0 && m.steps[i-1].field == ""
 		if i > 0 {
@@ -172,13 +129,13 @@ func (m *memory) fitTypes(u use) (word string, score int) {
 	return "", noFit
 }
 
-// begin is the word of a part of a piece.
-func (p *piece) begin(steps []step) string {
+// begin is the word of a part of what the use's memory begins with.
+func (u use) begin(steps []step) string {
 	switch {
-	case p.kind == pointeePiece && len(steps) == 0:
-		return p.root + "_at"
-	case p.kind == elementPiece && len(steps) == 0:
-		return p.root + "_elem"
+	case len(steps) == 0 && u.kind == pointeePiece:
+		return u.root + "_at"
+	case len(steps) == 0 && u.kind == elementPiece:
+		return u.root + "_elem"
 	}
-	return wordOf(p.root, steps)
+	return wordOf(u.root, steps)
 }

@@ -1,8 +1,11 @@
 package symbols
 
 import (
-	"os"
+	"fmt"
+	"os/exec"
+	"path/filepath"
 	"runtime"
+	"strconv"
 	"strings"
 	"testing"
 )
@@ -70,49 +73,44 @@ func TestLiteralOf(t *testing.T) {
 	}
 }
 
-// TestOwnFrames compares all places of this test's own program with what package runtime tells of them.
-func TestOwnFrames(t *testing.T) {
-	path, err := os.Executable()
-	if err != nil {
-		t.Fatal(err)
-	}
+// TestToldFrames compares all places of a program with what package runtime tells of them there.
+func TestToldFrames(t *testing.T) {
+	path := build(t, filepath.Join(runtime.GOROOT(), "bin", "go"), "names", nil)
 	p, err := Open(path)
 	if err != nil {
 		t.Fatal(err)
 	}
 	defer p.Close()
-	text := runtime.FuncForPC(p.entryOf(t, "runtime.main"))
-	if text == nil || text.Name() != "runtime.main" {
-		t.Skip("this program doesn't lie where its file says")
-	}
-	wrong, several, seen := 0, 0, 0
+	var places []uint64
 	for i := 0; i < p.lines.count; i++ {
-		f, _ := p.lines.function(i)
+		f := p.lines.function(i)
 		for ret := f.entry + 1; ret < f.entry+4000; ret += 7 {
 			if g, ok := p.lines.find(ret); !ok || g.entry != f.entry {
 				break
 			}
-			got, want := p.Frames(ret), toldByRuntime(uintptr(ret))
-			if seen++; len(got) > 1 {
-				several++
-			}
-			if !isInnermost(got, want) {
-				t.Errorf("%#x: got %v, want %v", ret, got, want)
-				if wrong++; wrong == 10 {
-					return
-				}
-			}
+			places = append(places, ret)
 		}
 	}
-	if seen < 1000 || several < 100 {
-		t.Errorf("%d places, %d with inlined calls", seen, several)
+	wrong, several := 0, 0
+	for i, want := range toldByRuntime(t, path, places) {
+		got := p.Frames(places[i])
+		if len(got) > 1 {
+			several++
+		}
+		if !isInnermost(got, want) && wrong < 10 {
+			t.Errorf("%#x: got %v, want %v", places[i], got, want)
+			wrong++
+		}
+	}
+	if len(places) < 1000 || several < 100 {
+		t.Errorf("%d places, %d with inlined calls", len(places), several)
 	}
 }
 
 func (p *Program) entryOf(t *testing.T, function string) uintptr {
 	t.Helper()
 	for i := 0; i < p.lines.count; i++ {
-		if f, ok := p.lines.function(i); ok && f.name() == function {
+		if f := p.lines.function(i); f.name == function {
 			return uintptr(f.entry)
 		}
 	}
@@ -120,10 +118,29 @@ func (p *Program) entryOf(t *testing.T, function string) uintptr {
 	return 0
 }
 
-// toldByRuntime is the innermost call at a place.
-func toldByRuntime(ret uintptr) Frame {
-	f, _ := runtime.CallersFrames([]uintptr{ret}).Next()
-	return Frame{Function: f.Function, File: f.File, Line: f.Line}
+// toldByRuntime are the innermost calls at places of a program.
+func toldByRuntime(t *testing.T, path string, places []uint64) (told []Frame) {
+	t.Helper()
+	var asked strings.Builder
+	for _, ret := range places {
+		fmt.Fprintf(&asked, "%x\n", ret)
+	}
+	cmd := exec.Command(path)
+	cmd.Env = []string{"PLACES=1"}
+	cmd.Stdin = strings.NewReader(asked.String())
+	out, err := cmd.Output()
+	if err != nil {
+		t.Fatal(err)
+	}
+	for _, line := range strings.Split(strings.TrimSuffix(string(out), "\n"), "\n") {
+		words := strings.Split(line, "\t")
+		number, _ := strconv.Atoi(words[2])
+		told = append(told, Frame{Function: words[0], File: words[1], Line: number})
+	}
+	if len(told) != len(places) {
+		t.Fatalf("%d places are told of %d", len(told), len(places))
+	}
+	return told
 }
 
 // isInnermost leaves the names of wrappers alone, which have here the name of what they are in. The table's first function
@@ -146,8 +163,8 @@ func TestFrames(t *testing.T) {
 		wrapped := false
 		inlined := false
 		for i := 0; i < p.lines.count; i++ {
-			f, _ := p.lines.function(i)
-			if PackageOf(f.name()) != "main" {
+			f := p.lines.function(i)
+			if PackageOf(f.name) != "main" {
 				continue
 			}
 			fs := p.Frames(f.entry + 1)

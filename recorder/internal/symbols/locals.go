@@ -11,15 +11,9 @@ type local struct {
 	heap     bool // it lies in the heap, and the function has its address
 }
 
-// scope is a function in the code of another one, or of itself.
-type scope struct {
-	entry    uint64
-	function string
-}
-
 // localsOf answers the variables of a frame's function, also where it is inlined.
 func (p *Program) localsOf(f Frame) []local {
-	key := scope{f.entry, f.Function}
+	key := Frame{Function: f.Function, entry: f.entry}
 	list, ok := p.locals[key]
 	if ok {
 		return list

@@ -2,6 +2,7 @@ package symbols
 
 import (
 	"reflect"
+	"sort"
 	"strings"
 )
 
@@ -25,6 +26,7 @@ type Name struct {
 	Word  string // for a trace: Account_mu, xs_elem, p_at; or ""
 	Begin uint64 // the address of a package variable, or of the part of one; it may be in front of the access
 	rank  int    // of the names of several accesses to one variable the one with the most counts
+	isOwn bool   // it is that of a variable of the function
 }
 
 // How well names fit what is known of the memory.
@@ -46,12 +48,12 @@ func (p *Program) Name(a Access) Name {
 	}
 	m := p.memoryOf(a)
 	n := m.byType()
-	if m.owner.home != nil {
-		n = n.or(Name{Word: m.owner.begin(m.steps), rank: fits})
+	if m.owner != nil {
+		n = n.or(Name{Word: use{place: m.owner}.begin(m.steps), rank: fits})
 	} else if !m.isField() || p.isLibrary(m.typ.pkg()) {
 		n = n.or(p.bestUse(a, m))
 	}
-	return Name{asWord(n.Word), a.Addr, n.rank}
+	return Name{Word: asWord(n.Word), Begin: a.Addr, rank: n.rank}
 }
 
 // NameOf is the best name that several accesses to one variable have.
@@ -64,6 +66,34 @@ func (p *Program) NameOf(list []Access) (best Name) {
 	return best
 }
 
+// globalAt names the package variable, or the part of one, that an address of the running program lies in.
+func (p *Program) globalAt(addr uint64) (Name, bool) {
+	at := addr - p.moved
+	i := sort.Search(len(p.objects), func(i int) bool { return p.objects[i].Value+p.objects[i].Size > at })
+	if i == len(p.objects) || p.objects[i].Value > at {
+		return Name{}, false
+	}
+	o := p.objects[i]
+	pkg, name := PackageOf(o.Name), nameInPackage(o.Name)
+	if isMadeUp(name) || strings.Contains(pkg, ":") {
+		return Name{}, false
+	}
+	t, _ := p.variable(pkg, name)
+	steps, begin, _ := descend(t, at-o.Value)
+	return Name{Word: asWord(wordOf(name, steps)), Begin: o.Value + p.moved + begin, rank: exact}, true
+}
+
+// nameInPackage is a symbol without its package, or "" if it has none.
+func nameInPackage(symbol string) string {
+	_, name, _ := strings.Cut(symbol[strings.LastIndexByte(symbol, '/')+1:], ".")
+	return name
+}
+
+// isMadeUp reports whether the compiler has named a variable, as main..stmp_1, the value of a composite literal.
+func isMadeUp(name string) bool {
+	return name == "" || strings.HasPrefix(name, ".") || strings.ContainsAny(name, ":*")
+}
+
 // memory is what an access is about: a part of an object, as far as it is known.
 type memory struct {
 	typ     *Type // what the object was made for; nil: unknown
@@ -72,11 +102,11 @@ type memory struct {
 	steps   []step
 	width   uint64 // of the access; 0: unknown
 	write   bool
-	owner   piece   // of what a package variable was made with
+	owner   *place  // of what a package variable was made with
 	calls   []Frame // of Go's library, that came to it
 }
 
-// memoryOf answers what is known of an access's memory. What package runtime makes for itself tells nothing.
+// memoryOf answers what is known of an access's memory.
 func (p *Program) memoryOf(a Access) *memory {
 	m := &memory{write: a.Write}
 	if a.Size > 1 {
@@ -84,7 +114,7 @@ func (p *Program) memoryOf(a Access) *memory {
 	}
 	o := a.Object
 	if s, ok := p.staticAt(a.Addr); ok && o == nil {
-		m.owner = s.piece
+		m.owner = s.place
 		m.be(s.home, a.Addr-p.moved-s.begin, s.end-s.begin)
 	} else if o != nil && o.Type != 0 && a.Addr-o.Base < o.Size {
 		m.be(p.TypeAt(o.Type), a.Addr-o.Base, o.Size)
@@ -92,7 +122,8 @@ func (p *Program) memoryOf(a Access) *memory {
 	return m
 }
 
-// be notes what the memory was made for. What package runtime makes for itself tells nothing.
+// be notes what the memory was made for. What package runtime makes for itself tells nothing. For most that is in maps the
+// debugging information has no types.
 func (m *memory) be(t *Type, at, size uint64) {
 	switch {
 	case t == nil || t.isOfMap():
@@ -100,14 +131,14 @@ func (m *memory) be(t *Type, at, size uint64) {
 	case t.pkg() != "runtime" && t.Size > 0:
 		m.typ = t
 		if m.several = size >= 2*t.Size; m.several {
-			m.steps = append(m.steps, step{of: t})
+			m.steps = []step{{of: t}}
 		}
-		m.steps = append(m.steps, descend(t, at%t.Size).steps...)
+		steps, _, _ := descend(t, at%t.Size)
+		m.steps = append(m.steps, steps...)
 	}
 }
 
-// isOfMap reports whether package runtime makes maps of a type. For most that is in them the debugging information
-// has no types.
+// isOfMap reports whether package runtime makes maps of a type.
 func (t *Type) isOfMap() bool {
 	name := strings.TrimPrefix(t.Name, "noalg.")
 	return strings.HasPrefix(name, "map.") || name == "runtime.hmap" || t.pkg() == "internal/runtime/maps"
@@ -134,17 +165,15 @@ func (m *memory) isField() bool {
 // byType names a part of an object by its type alone.
 func (m *memory) byType() Name {
 	home, steps := m.home()
-	switch {
-	case m.isMap && m.typ == nil:
-		return Name{}
-	case m.isMap:
+	switch name := home.short(); {
+	case m.isMap && m.typ != nil:
 		return Name{Word: "map", rank: vague}
 	case m.isField():
-		return Name{Word: wordOf(home.short(), steps), rank: typed}
-	case home != nil && home.Kind == reflect.Struct && home.short() != "":
-		return Name{Word: home.short(), rank: typed}
+		return Name{Word: wordOf(name, steps), rank: typed}
+	case home != nil && home.Kind == reflect.Struct && name != "":
+		return Name{Word: name, rank: typed}
 	case len(m.steps) > 0:
-		return Name{Word: wordOf(home.short(), m.steps), rank: vague}
+		return Name{Word: wordOf(name, m.steps), rank: vague}
 	}
 	return Name{}
 }
@@ -155,6 +184,32 @@ func (n Name) or(o Name) Name {
 		return o
 	}
 	return n
+}
+
+// bestOf is the name that fits best, of which the rank then tells no more than how it does.
+func bestOf(names []Name) (best Name) {
+	isTied := false // another one fits as well
+	for _, n := range names {
+		switch {
+		case n.rank > best.rank:
+			best, isTied = n, false
+		case n.rank == best.rank && n.Word != best.Word:
+			isTied = true
+		}
+	}
+	switch {
+	case best.rank <= noFit:
+		return Name{}
+	case isTied || best.rank < guess-5:
+		best.rank = guess
+	case best.rank < fits-20:
+		best.rank = likely
+	case best.rank < fits || !best.isOwn:
+		best.rank = fits
+	default:
+		best.rank = declared
+	}
+	return best
 }
 
 // asWord is a name without what a name of a trace can't have.

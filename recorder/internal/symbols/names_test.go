@@ -106,7 +106,7 @@ func (e expectation) name(t *testing.T, p *Program, f Frame) Name {
 		a.Addr = objectNamed(p, e.what).Value + e.offset
 		return p.Name(a)
 	case "static": // what the linker has made for the variable
-		a.Addr = p.wordAt(objectNamed(p, e.what).Value) + e.offset
+		a.Addr = order.Uint64(p.bytesAt(objectNamed(p, e.what).Value)) + e.offset
 		return p.Name(a)
 	}
 	a.Object = e.object(t, p)
@@ -160,7 +160,7 @@ func TestAllPlaces(t *testing.T) {
 	objects = append(objects, nil, &Object{Base: heapBase, Size: 64}, &Object{Base: heapBase + 8})
 	named := 0
 	for i := 0; i < p.lines.count; i += 3 {
-		f, _ := p.lines.function(i)
+		f := p.lines.function(i)
 		for at := uint64(1); at < 400; at += 57 {
 			fs := p.Frames(f.entry + at)
 			o := objects[int(f.entry/16+at)%len(objects)]

@@ -23,7 +23,7 @@ func (p *Program) Object(a Access) Name {
 			n = n.or(l.bestOperand(verb, m))
 		}
 	}
-	return Name{asWord(n.Word), a.Addr, n.rank}
+	return Name{Word: asWord(n.Word), Begin: a.Addr, rank: n.rank}
 }
 
 // operationOf answers the method or the operation that a stack begins with, and the frame that calls it.
@@ -65,49 +65,46 @@ func channelVerb(function string) string {
 // bestOperand names what the operation of a line is about. A deferred one happens where the function ends, so it may
 // stand anywhere in it.
 func (l *locator) bestOperand(verb string, m *memory) Name {
-	var here, deferred contest
+	var here, deferred []Name
 	inspectOwn(l.fn, func(n ast.Node) {
 		onLine := l.line(n.Pos()) == l.at
 		switch s := n.(type) {
 		case *ast.DeferStmt:
 			if !onLine {
-				l.operand(s.Call, verb, m, &deferred)
+				deferred = append(deferred, l.operand(s.Call, verb, m)...)
 			}
 		case *ast.SelectStmt: // the runtime does the operations of its cases at its first line
 			for _, c := range s.Body.List {
-				if c, ok := c.(*ast.CommClause); ok && c.Comm != nil && onLine {
-					ast.Inspect(c.Comm, func(n ast.Node) bool {
-						l.operand(n, verb, m, &here)
-						return n != nil
-					})
+				if c := c.(*ast.CommClause); c.Comm != nil && onLine {
+					inspectOwn(c.Comm, func(n ast.Node) { here = append(here, l.operand(n, verb, m)...) })
 				}
 			}
 		}
 		if onLine {
-			l.operand(n, verb, m, &here)
+			here = append(here, l.operand(n, verb, m)...)
 		}
 	})
-	if here.first.score > noFit {
-		return here.best()
+	if n := bestOf(here); n.rank > noFit {
+		return n
 	}
-	return deferred.best()
+	return bestOf(deferred)
 }
 
-// operand enters what a node operates on, if it does what the verb says.
-func (l *locator) operand(n ast.Node, verb string, m *memory, all *contest) {
+// operand names what a node operates on, if it does what the verb says.
+func (l *locator) operand(n ast.Node, verb string, m *memory) []Name {
 	does, on := operationIn(n)
 	x := l.placeOf(on)
 	switch {
 	case x == nil || verb != "" && verb != does:
+		return nil
 	case m.typ == nil: // a channel's memory has nothing to go by
-		all.enter(candidate{word: x.word, score: likely})
-	default:
-		all.enter(candidate{word: x.word, score: guess - 10})
-		all.enter(m.fit(use{place: x, write: m.write}))
-		if x.typ != nil && x.typ.Kind == reflect.Ptr {
-			all.enter(m.fit(use{place: pointee(x, "_at"), write: m.write}))
-		}
+		return []Name{{Word: x.word, rank: likely}}
 	}
+	names := []Name{{Word: x.word, rank: guess - 10}, m.fit(use{place: x, write: m.write})}
+	if x.typ != nil && x.typ.Kind == reflect.Ptr {
+		names = append(names, m.fit(use{place: pointee(x, "_at"), write: m.write}))
+	}
+	return names
 }
 
 // operationIn is what a node does, and on what.

@@ -2,13 +2,6 @@ package symbols
 
 import "reflect"
 
-// part is the variable that an offset in a piece of memory is of.
-type part struct {
-	offset uint64 // where the variable begins in the piece
-	typ    *Type  // nil: unknown
-	steps  []step // that lead to it
-}
-
 // step leads from a value to a part of it: a field, or an element.
 type step struct {
 	field    string // "": an element
@@ -17,19 +10,17 @@ type step struct {
 	of       *Type // of the part
 }
 
-// descend goes from a value to the variable in it that an offset is of. A string, slice, map, interface and a struct of
-// Go's library that shows no field are one variable each.
-func descend(t *Type, at uint64) part {
-	d := part{typ: t}
+// descend goes from a value to the variable in it that an offset is of: the steps, where it begins, and its type, nil if that
+// isn't known. A string, slice, map, interface and a struct of Go's library that shows no field are one variable each.
+func descend(t *Type, at uint64) (steps []step, begin uint64, typ *Type) {
 	for {
-		s, begin, ok := d.typ.stepTo(at)
+		s, offset, ok := t.stepTo(at - begin)
 		if !ok {
-			return d
+			return steps, begin, t
 		}
-		d.steps = append(d.steps, s)
-		d.offset += begin
-		at -= begin
-		d.typ = s.of
+		steps = append(steps, s)
+		begin += offset
+		t = s.of
 	}
 }
 

@@ -40,10 +40,10 @@ func TestPart(t *testing.T) {
 			}
 			m := p.memoryOf(Access{Addr: heapBase + c.offset, Object: &Object{heapBase, typ.Size * c.several, offsetOf(p, typ)}})
 			word := wordOf(typ.short(), m.steps)
-			got := descend(typ, c.offset%typ.Size)
-			if begin := c.offset - c.offset%typ.Size + got.offset; begin != c.begin || got.typ.Size != c.bytes && c.bytes != 0 || word != c.word {
+			_, begin, got := descend(typ, c.offset%typ.Size)
+			if begin += c.offset - c.offset%typ.Size; begin != c.begin || got.Size != c.bytes && c.bytes != 0 || word != c.word {
 				t.Errorf("%d values of %s +%d: got %s, %d bytes at %d, want %s, %d at %d",
-					c.several, c.typ, c.offset, word, got.typ.Size, begin, c.word, c.bytes, c.begin)
+					c.several, c.typ, c.offset, word, got.Size, begin, c.word, c.bytes, c.begin)
 			}
 		}
 	})

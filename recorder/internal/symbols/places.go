@@ -11,23 +11,16 @@ import (
 type place struct {
 	word string // for a trace
 	typ  *Type  // of the value there; nil: unknown
-	piece
-}
-
-// piece is what an expression's memory begins with: a variable, or what a pointer or a slice leads to.
-type piece struct {
 	kind pieceKind
-	root string // the word of the variable, the pointer or the slice
+	root string // the word of what the memory begins with: a variable, or what leads to it, a pointer or a slice
 	home *Type  // of the variable, the pointee or the element; nil: unknown
 }
 
 type pieceKind uint8
 
 const (
-	noPiece    pieceKind = iota
-	ownPiece             // a variable that lies in the heap
-	fixedPiece           // one that doesn't
-	lostPiece            // one that the compiler has left out of the debugging information
+	noPiece  pieceKind = iota // or a variable that doesn't lie in the heap: its address would tell
+	ownPiece                  // a variable that does
 	pointeePiece
 	elementPiece
 	mapPiece
@@ -42,6 +35,10 @@ type locator struct {
 	at     int      // the line
 	pkg    string
 	locals []local
+
+	deep bool              // a function that is called uses the line's: what its arguments lead to counts too
+	skip map[ast.Node]bool // what a statement only writes, and identifiers that are no variables
+	uses []use
 }
 
 // locatorFor is nil where there is no source.
@@ -51,7 +48,7 @@ func (p *Program) locatorFor(f Frame) *locator {
 	if fn == nil {
 		return nil
 	}
-	return &locator{s, p, fn, f.Line, PackageOf(f.Function), p.localsOf(f)}
+	return &locator{source: s, p: p, fn: fn, at: f.Line, pkg: PackageOf(f.Function), locals: p.localsOf(f), skip: map[ast.Node]bool{}}
 }
 
 // placeOf answers the place of an expression, or nil where it has none that is worth a name.
@@ -104,22 +101,21 @@ func (l *locator) ident(e *ast.Ident) *place {
 	if e.Name == "_" || e.Obj != nil && e.Obj.Kind != ast.Var {
 		return nil
 	}
-	whole := func(kind pieceKind, t *Type) *place { return &place{e.Name, t, piece{kind, e.Name, t}} }
+	x := &place{word: e.Name, root: e.Name}
 	t, isGlobal := l.p.variable(l.pkg, e.Name)
-	isGlobal = isGlobal && (e.Obj == nil || e.Obj == l.file.Scope.Lookup(e.Name))
-	if v, ok := l.local(e); ok && !isGlobal {
-		if v.heap {
-			return whole(ownPiece, v.typ)
-		}
-		return whole(fixedPiece, v.typ)
-	}
+	v, isLocal := l.local(e)
 	switch {
-	case isGlobal:
-		return whole(fixedPiece, t)
+	case isGlobal && (e.Obj == nil || e.Obj == l.file.Scope.Lookup(e.Name)):
+		x.typ = t
+	case isLocal && v.heap:
+		x.typ, x.kind = v.typ, ownPiece
+	case isLocal:
+		x.typ = v.typ
 	case e.Obj == nil:
 		return nil
 	}
-	return whole(lostPiece, nil)
+	x.home = x.typ
+	return x
 }
 
 // local answers the function's variable of a name, of several the one that is declared where the name's is.
@@ -143,14 +139,12 @@ func (l *locator) selector(e *ast.SelectorExpr) *place {
 	y := &place{word: x.word + "_" + name}
 	if s := x.typ.pointedAt().short(); s != "" {
 		y.word = s + "_" + name
-	} else if x.kind == lostPiece {
-		y.piece = x.piece
 	}
 	for _, f := range x.typ.pointedAt().member(name, 5) {
 		if x.typ.Kind == reflect.Ptr {
 			x = pointee(x, "")
 		}
-		y.typ, y.piece = f.typ, x.piece
+		y.typ, y.kind, y.root, y.home = f.typ, x.kind, x.root, x.home
 		x = y
 	}
 	return y
@@ -161,7 +155,7 @@ func (l *locator) selector(e *ast.SelectorExpr) *place {
 func (l *locator) imported(pkg *ast.Ident, name string) *place {
 	isPackage := func(path string) bool { return path == pkg.Name || strings.HasSuffix(path, "/"+pkg.Name) }
 	if t, ok := l.p.findVariable(isPackage, name); ok && pkg.Obj == nil {
-		return &place{name, t, piece{fixedPiece, name, t}}
+		return &place{word: name, typ: t}
 	}
 	return nil
 }
@@ -171,19 +165,19 @@ func element(x *place) *place {
 	if x == nil {
 		return nil
 	}
-	y := &place{x.word + "_elem", x.typ.Elem(), piece{elementPiece, x.word, nil}}
+	y := &place{word: x.word + "_elem", typ: x.typ.Elem(), kind: elementPiece, root: x.word}
 	array := x.typ.pointedAt()
 	switch {
 	case x.typ == nil:
 	case x.typ.Kind == reflect.Map:
-		y.word, y.piece = x.word, piece{mapPiece, x.word, x.typ}
+		y.word, y.kind = x.word, mapPiece
 	case x.typ.Kind == reflect.Slice:
 		y.home = y.typ
 	case array != nil && array.Kind == reflect.Array:
 		if x.typ.Kind == reflect.Ptr {
 			x = pointee(x, "")
 		}
-		y.typ, y.piece = array.Elem(), x.piece
+		y.typ, y.kind, y.root, y.home = array.Elem(), x.kind, x.root, x.home
 	default:
 		return nil
 	}
@@ -195,7 +189,7 @@ func pointee(x *place, star string) *place {
 	if x == nil {
 		return nil
 	}
-	y := &place{word: x.word + star, piece: piece{kind: pointeePiece, root: x.word}}
+	y := &place{word: x.word + star, kind: pointeePiece, root: x.word}
 	if x.typ != nil && x.typ.Kind == reflect.Ptr {
 		y.typ = x.typ.Elem()
 		y.home = y.typ

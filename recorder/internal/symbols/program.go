@@ -8,101 +8,137 @@ import (
 	"debug/buildinfo"
 	"debug/dwarf"
 	"debug/elf"
+	"encoding/binary"
+	"errors"
 	"fmt"
-	"os"
 	"path"
-	"path/filepath"
+	"sort"
 	"strings"
 )
 
-// Program is a binary that Go 1.19 or later has built.
+// Program is a binary that gorec has built.
 type Program struct {
-	file    *os.File
 	elf     *elf.File
 	lines   *lineTable
-	parts   parts
+	types   uint64       // where package runtime has the types
 	objects []elf.Symbol // package variables, in the order of their addresses
-	module  string       // the main module
+	modules []string     // the paths of the main module and of those that it needs
 	goroot  string       // where Go's source lay, or "" if the paths are trimmed
 	version int          // 19 for Go 1.19
 	moved   uint64       // how far the running program lies from where the file says
 
 	debugging *debugInfo // once it was asked for
 	frames    map[uint64][]Frame
-	types     map[dwarf.Offset]*Type
-	locals    map[scope][]local
+	typeAt    map[dwarf.Offset]*Type
+	locals    map[Frame][]local
 	sources   map[string]*source
-
-	statics []static        // in the order of their addresses, once they were asked for
-	library map[string]bool // whether a package is Go's
+	statics   []static // in the order of their addresses, once they were asked for
 }
 
-// Open reads the tables of a binary. Without debugging information it still has functions and lines.
+var order = binary.LittleEndian
+
+// Open reads the tables of a binary.
 func Open(path string) (*Program, error) {
-	f, err := os.Open(path)
+	file, err := elf.Open(path)
 	if err != nil {
-		return nil, err
-	}
-	p := &Program{
-		file: f, frames: map[uint64][]Frame{}, types: map[dwarf.Offset]*Type{},
-		locals: map[scope][]local{}, sources: map[string]*source{}, library: map[string]bool{},
-	}
-	if err := p.read(); err != nil {
-		f.Close()
 		return nil, fmt.Errorf("%s: %w", path, err)
 	}
+	p := &Program{
+		elf: file, version: 27, frames: map[uint64][]Frame{}, typeAt: map[dwarf.Offset]*Type{},
+		locals: map[Frame][]local{}, sources: map[string]*source{},
+	}
+	if info, err := buildinfo.ReadFile(path); err == nil {
+		fmt.Sscanf(info.GoVersion, "go1.%d", &p.version)
+		p.modules = append(p.modules, info.Main.Path)
+		for _, m := range info.Deps {
+			p.modules = append(p.modules, m.Path)
+		}
+	}
+	if err := p.readSymbols(); err != nil {
+		file.Close()
+		return nil, fmt.Errorf("%s: %w", path, err)
+	}
+	p.findRoot()
 	return p, nil
 }
 
-func (p *Program) read() (err error) {
-	if p.elf, err = elf.NewFile(p.file); err != nil {
-		return err
-	}
-	p.readBuild()
-	p.readSymbols()
-	if p.lines, err = p.readLines(); err != nil {
-		return err
-	}
-	p.findRoot()
-	return nil
-}
-
 // Close gives the file back.
-func (p *Program) Close() error { return p.file.Close() }
+func (p *Program) Close() error { return p.elf.Close() }
 
 // Root is where Go's source lay when the program was built, or "" where the binary has no full paths.
 func (p *Program) Root() string { return p.goroot }
 
-// Relocate tells where the text of the running program begins, which differs from the file's where the
-// program may lie anywhere.
-func (p *Program) Relocate(text uint64) {
-	if moved := text - p.lines.text; moved != p.moved {
-		p.moved = moved
-		p.frames = map[uint64][]Frame{}
+// Relocate tells, before anything is asked, where the text of the running program begins, which differs from the file's where
+// the program may lie anywhere.
+func (p *Program) Relocate(text uint64) { p.moved = text - p.lines.text }
+
+// readSymbols learns from what the linker names where parts of the program and the package variables lie.
+func (p *Program) readSymbols() (err error) {
+	list, err := p.elf.Symbols()
+	if err != nil {
+		return errors.New("it has no symbols, which gorec build leaves in a program")
 	}
+	var text, table, functions uint64
+	for _, s := range list {
+		switch s.Name {
+		case "runtime.text":
+			text = s.Value
+		case "runtime.types":
+			p.types = s.Value
+		case "runtime.pclntab":
+			table = s.Value
+		case "go:func.*", "go.func.*", "runtime.gofunc":
+			functions = s.Value
+		}
+		if elf.ST_TYPE(s.Info) == elf.STT_OBJECT && s.Size > 0 && p.isData(s.Section) {
+			p.objects = append(p.objects, s)
+		}
+	}
+	sort.Slice(p.objects, func(i, j int) bool { return p.objects[i].Value < p.objects[j].Value })
+	p.lines, err = readLines(text, p.bytesAt(table), p.bytesAt(functions))
+	return err
 }
 
-// readBuild learns the version of Go and the main module.
-func (p *Program) readBuild() {
-	p.version = 27
-	if info, err := buildinfo.Read(p.file); err == nil {
-		p.module = info.Main.Path
-		fmt.Sscanf(info.GoVersion, "go1.%d", &p.version)
+// isData reports whether variables may lie in a section.
+func (p *Program) isData(section elf.SectionIndex) bool {
+	return int(section) < len(p.elf.Sections) && p.elf.Sections[section].Flags&elf.SHF_WRITE != 0
+}
+
+// sectionAt answers the section of the file that an address lies in, or nil.
+func (p *Program) sectionAt(addr uint64) *elf.Section {
+	for _, s := range p.elf.Sections {
+		if s.Type == elf.SHT_PROGBITS && s.Flags&elf.SHF_ALLOC != 0 && s.Addr <= addr && addr-s.Addr < s.Size {
+			return s
+		}
+	}
+	return nil
+}
+
+// bytesAt answers what the file has for an address on, up to the end of its section.
+func (p *Program) bytesAt(addr uint64) []byte {
+	if s := p.sectionAt(addr); s != nil {
+		if b, err := s.Data(); err == nil {
+			return b[addr-s.Addr:]
+		}
+	}
+	return nil
+}
+
+// readAt reads what the file has at an address.
+func (p *Program) readAt(addr uint64, b []byte) {
+	if s := p.sectionAt(addr); s != nil {
+		s.ReadAt(b, int64(addr-s.Addr))
 	}
 }
 
 // findRoot learns where Go's source lay from where package runtime did.
 func (p *Program) findRoot() {
-	const inRoot = "/src/runtime/"
-	for i := 0; i < p.lines.count; i += 1 + p.lines.count/500 {
-		f, ok := p.lines.function(i)
-		if !ok || !strings.HasPrefix(f.name(), "runtime.") {
-			continue
-		}
-		file, _ := f.place(f.entry)
-		if j := strings.LastIndex(file, inRoot); j >= 0 {
-			p.goroot = file[:j]
-			return
+	for i := 0; i < p.lines.count; i++ {
+		if f := p.lines.function(i); strings.HasPrefix(f.name, "runtime.") {
+			if file, _ := f.place(f.entry); strings.Contains(file, "/src/runtime/") {
+				p.goroot = file[:strings.LastIndex(file, "/src/runtime/")]
+				return
+			}
 		}
 	}
 }
@@ -115,30 +151,19 @@ func (p *Program) IsStandard(f Frame) bool {
 	case p.goroot != "":
 		return strings.HasPrefix(f.File, p.goroot+"/src/")
 	}
-	return !p.isOwn(PackageOf(f.Function))
+	return p.isLibrary(PackageOf(f.Function))
 }
 
-// isLibrary reports whether a package is of Go's library.
+// isLibrary tells by a package's path whether it is of Go's library.
 func (p *Program) isLibrary(pkg string) bool {
-	if pkg == "" {
+	first, _, _ := strings.Cut(pkg, "/")
+	if pkg == "" || pkg == "main" || pkg == "command-line-arguments" || strings.Contains(first, ".") {
 		return false
 	}
-	is, ok := p.library[pkg]
-	if !ok {
-		if is = !p.isOwn(pkg); p.goroot != "" {
-			info, err := os.Stat(filepath.Join(p.goroot, "src", filepath.FromSlash(pkg)))
-			is = err == nil && info.IsDir()
+	for _, m := range p.modules {
+		if path := strings.TrimSuffix(pkg, "_test"); path == m || strings.HasPrefix(path, m+"/") {
+			return false
 		}
-		p.library[pkg] = is
 	}
-	return is
-}
-
-// isOwn tells from a package's path alone whether it isn't Go's.
-func (p *Program) isOwn(pkg string) bool {
-	if pkg == "main" || pkg == "command-line-arguments" || pkg == p.module || strings.HasPrefix(pkg, p.module+"/") {
-		return true
-	}
-	first, _, _ := strings.Cut(pkg, "/")
-	return strings.Contains(first, ".")
+	return true
 }

@@ -14,20 +14,12 @@ type source struct {
 	file *ast.File
 }
 
-// mostSources is how many files are kept.
-const mostSources = 100
-
 // sourceOf answers a file, which is empty if it can't be read.
 func (p *Program) sourceOf(path string) *source {
-	s, ok := p.sources[path]
-	if !ok {
-		s = parse(path, nil)
-		if len(p.sources) >= mostSources {
-			p.sources = map[string]*source{}
-		}
-		p.sources[path] = s
+	if p.sources[path] == nil {
+		p.sources[path] = parse(path, nil)
 	}
-	return s
+	return p.sources[path]
 }
 
 // parse parses a text, or else the file of a name, as far as that goes.

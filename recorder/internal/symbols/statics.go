@@ -8,7 +8,7 @@ import (
 // static is what the linker has made of a composite literal. It has no name of its own, but the package variable that
 // it was made for points at it.
 type static struct {
-	piece
+	*place
 	begin, end uint64
 }
 
@@ -34,14 +34,16 @@ func (p *Program) findStatics() {
 			continue
 		}
 		t, _ := p.variable(pkg, name)
-		s := static{piece: piece{root: name, home: t.Elem()}, begin: p.wordAt(o.Value)}
-		switch {
-		case s.begin == 0 || s.home == nil:
+		var head [24]byte // of a pointer or a slice
+		p.readAt(o.Value, head[:])
+		s := static{begin: order.Uint64(head[:])}
+		switch x := (&place{word: name, typ: t}); {
+		case s.begin == 0 || t.Elem() == nil:
 			continue
 		case t.Kind == reflect.Slice:
-			s.kind, s.end = elementPiece, s.begin+s.home.Size*p.wordAt(o.Value+16)
+			s.place, s.end = element(x), s.begin+t.Elem().Size*order.Uint64(head[16:])
 		case t.Kind == reflect.Ptr:
-			s.kind, s.end = pointeePiece, s.begin+s.home.Size
+			s.place, s.end = pointee(x, ""), s.begin+t.Elem().Size
 		default:
 			continue
 		}

@@ -36,35 +36,34 @@ func (p *Program) TypeAt(at uint64) *Type {
 			d.read(u)
 		}
 	}
-	for _, key := range []uint64{at, p.parts.types + at} { // some are told by the second
+	for _, key := range []uint64{at, p.types + at} { // some are told by the second
 		if t := p.typeOf(d.runtimes[key]); t != nil {
 			return t
 		}
 	}
-	return p.arrayAt(p.parts.types + at)
+	return p.arrayAt(p.types + at)
 }
 
 // arrayAt answers an array by what package runtime has at an address. Of one that a slice's literal is made of the debugging
 // information may have nothing.
 func (p *Program) arrayAt(addr uint64) *Type {
 	const kindAt, elementAt = 23, 48
-	if kind := p.wordAt(addr+kindAt-7) >> 56 & 31; reflect.Kind(kind) != reflect.Array {
+	var head [56]byte
+	p.readAt(addr, head[:])
+	e := p.typeOf(p.debug().runtimes[order.Uint64(head[elementAt:])-p.types])
+	if kind := head[kindAt] & 31; reflect.Kind(kind) != reflect.Array || e == nil {
 		return nil
 	}
-	e := p.typeOf(p.debug().runtimes[p.wordAt(addr+elementAt)-p.parts.types])
-	if e == nil {
-		return nil
-	}
-	return &Type{Name: "[]" + e.Name, Size: p.wordAt(addr), Kind: reflect.Array, p: p, isRead: true, element: e}
+	return &Type{Name: "[]" + e.Name, Size: order.Uint64(head[:]), Kind: reflect.Array, p: p, isRead: true, element: e}
 }
 
 // typeOf answers the type of an entry, or nil. One that is told by another one's name is that one.
 func (p *Program) typeOf(at dwarf.Offset) *Type {
-	t, ok := p.types[at]
+	t, ok := p.typeAt[at]
 	if ok || at == 0 {
 		return t
 	}
-	p.types[at] = nil // lest an entry leads to itself
+	p.typeAt[at] = nil // lest an entry leads to itself
 	e := p.debug().entryAt(at)
 	kind := reflect.Kind(number(e, attrGoKind))
 	if e.Tag == dwarf.TagTypedef && kind == reflect.Invalid {
@@ -78,7 +77,7 @@ func (p *Program) typeOf(at dwarf.Offset) *Type {
 	case reflect.Interface:
 		t.Size = 16
 	}
-	p.types[at] = t
+	p.typeAt[at] = t
 	return t
 }
 

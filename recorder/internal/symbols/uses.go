@@ -14,21 +14,12 @@ type use struct {
 	derived bool // it isn't the expression itself, but what it leads to
 }
 
-// lister gathers what a line uses, what is likeliest first.
-type lister struct {
-	*locator
-	deep bool              // a function that is called does it: what its arguments lead to counts too
-	skip map[ast.Node]bool // what a statement only writes, and identifiers that are no variables
-	uses []use
-}
-
-// usesAt answers what the line of a function uses.
-func (l *locator) usesAt(deep bool) []use {
-	s := &lister{locator: l, deep: deep, skip: map[ast.Node]bool{}}
+// usesAt answers what the line uses, what is likeliest first.
+func (l *locator) usesAt() []use {
 	var stmt ast.Node // the smallest that covers the line
 	inspectOwn(l.fn, func(n ast.Node) {
 		if l.line(n.Pos()) == l.at {
-			s.node(n)
+			l.node(n)
 		}
 		switch n.(type) {
 		case *ast.AssignStmt, *ast.ExprStmt, *ast.ReturnStmt, *ast.GoStmt, *ast.DeferStmt, *ast.SendStmt, *ast.DeclStmt, *ast.ValueSpec:
@@ -37,139 +28,131 @@ func (l *locator) usesAt(deep bool) []use {
 			}
 		}
 	})
-	if len(s.uses) == 0 && stmt != nil {
-		inspectOwn(stmt, s.node)
+	if len(l.uses) == 0 && stmt != nil {
+		inspectOwn(stmt, l.node)
 	}
-	return s.uses
+	return l.uses
 }
 
-func (s *lister) add(p *place, write bool) {
-	if p != nil {
-		s.uses = append(s.uses, use{place: p, write: write})
+func (l *locator) add(x *place, write bool) {
+	if x != nil {
+		l.uses = append(l.uses, use{place: x, write: write})
 	}
 }
 
 // lead lists what a value leads to: what it points at, or its elements.
-func (s *lister) lead(x *place, write bool) {
+func (l *locator) lead(x *place, write bool) {
 	if x == nil || x.typ == nil {
 		return
 	}
-	add := func(y *place) {
-		if y != nil {
-			s.uses = append(s.uses, use{y, write, true})
-		}
-	}
 	if x.typ.Kind == reflect.Ptr {
 		x = pointee(x, "_at")
-		add(x)
+		l.uses = append(l.uses, use{x, write, true})
 	}
-	add(element(x))
+	if y := element(x); y != nil {
+		l.uses = append(l.uses, use{y, write, true})
+	}
 }
 
 // set lists what a statement sets, which may have just been made.
-func (s *lister) set(e ast.Expr) {
-	x := s.placeOf(e)
-	s.add(x, true)
-	s.lead(x, true)
+func (l *locator) set(e ast.Expr) {
+	x := l.placeOf(e)
+	l.add(x, true)
+	l.lead(x, true)
 }
 
 // node lists what one node reads and writes.
-func (s *lister) node(n ast.Node) {
+func (l *locator) node(n ast.Node) {
 	switch n := n.(type) {
 	case *ast.AssignStmt:
 		for _, e := range n.Lhs {
-			s.set(e)
-			s.skip[e] = n.Tok == token.ASSIGN || n.Tok == token.DEFINE
+			l.set(e)
+			l.skip[e] = n.Tok == token.ASSIGN || n.Tok == token.DEFINE
 		}
 	case *ast.IncDecStmt:
-		s.add(s.placeOf(n.X), true)
+		l.add(l.placeOf(n.X), true)
 	case *ast.ValueSpec:
-		s.declared(n.Names)
+		l.declared(n.Names)
 	case *ast.Field:
-		s.declared(n.Names)
+		l.declared(n.Names)
 	case *ast.RangeStmt:
-		s.ranged(n)
+		for _, e := range []ast.Expr{n.Key, n.Value} {
+			if e != nil {
+				l.add(l.placeOf(e), true)
+				l.skip[e] = true
+			}
+		}
+		l.add(element(l.placeOf(n.X)), false)
 	case *ast.ReturnStmt:
-		s.results()
+		l.results()
 	case *ast.CallExpr:
-		s.call(n)
+		l.call(n)
 	case *ast.KeyValueExpr:
 		if id, ok := n.Key.(*ast.Ident); ok && id.Obj == nil {
-			s.skip[id] = true
+			l.skip[id] = true
 		}
 	case *ast.SelectorExpr:
-		s.skip[n.Sel] = true
-		s.expression(n)
+		l.skip[n.Sel] = true
+		l.expression(n)
 	case *ast.Ident, *ast.IndexExpr, *ast.StarExpr:
-		s.expression(n.(ast.Expr))
+		l.expression(n.(ast.Expr))
 	case *ast.UnaryExpr:
-		if s.deep && n.Op == token.AND {
-			s.expression(n)
+		if l.deep && n.Op == token.AND {
+			l.expression(n)
 		}
 	}
 }
 
-func (s *lister) declared(names []*ast.Ident) {
+func (l *locator) declared(names []*ast.Ident) {
 	for _, e := range names {
-		s.set(e)
-		s.skip[e] = true
+		l.set(e)
+		l.skip[e] = true
 	}
 }
 
 // expression lists what an expression reads, and what a function that is handed it comes to.
-func (s *lister) expression(e ast.Expr) {
-	x := s.placeOf(e)
-	if x == nil || s.skip[e] {
+func (l *locator) expression(e ast.Expr) {
+	x := l.placeOf(e)
+	if x == nil || l.skip[e] {
 		return
 	}
-	s.add(x, false)
-	if !s.deep {
-		return
-	}
-	s.add(x, true)
-	s.lead(x, false)
-	s.lead(x, true)
-	if home := x.typ.pointedAt(); home.isOpaque() {
-		y := &place{word: x.word, piece: piece{contentPiece, x.word, home}}
-		s.add(y, false)
-		s.add(y, true)
-	}
-}
-
-func (s *lister) ranged(n *ast.RangeStmt) {
-	for _, e := range []ast.Expr{n.Key, n.Value} {
-		if e != nil {
-			s.add(s.placeOf(e), true)
-			s.skip[e] = true
+	l.add(x, false)
+	if l.deep {
+		l.add(x, true)
+		l.lead(x, false)
+		l.lead(x, true)
+		if home := x.typ.pointedAt(); home.isOpaque() {
+			y := &place{word: x.word, kind: contentPiece, home: home}
+			l.add(y, false)
+			l.add(y, true)
 		}
 	}
-	s.add(element(s.placeOf(n.X)), false)
 }
 
 // results lists the named results of the function, which a return writes.
-func (s *lister) results() {
-	var list *ast.FieldList
-	switch fn := s.fn.(type) {
+func (l *locator) results() {
+	var of *ast.FuncType
+	switch fn := l.fn.(type) {
 	case *ast.FuncDecl:
-		list = fn.Type.Results
+		of = fn.Type
 	case *ast.FuncLit:
-		list = fn.Type.Results
+		of = fn.Type
 	}
-	if list == nil {
+	if of == nil || of.Results == nil {
 		return
 	}
-	for _, f := range list.List {
+	for _, f := range of.Results.List {
 		for _, id := range f.Names {
-			s.add(s.placeOf(id), true)
+			l.add(l.placeOf(id), true)
 		}
 	}
 }
 
 // call lists what Go's own functions read and write behind their arguments.
-func (s *lister) call(n *ast.CallExpr) {
+func (l *locator) call(n *ast.CallExpr) {
 	elements := func(i int, write bool) {
 		if i < len(n.Args) {
-			s.add(element(s.placeOf(n.Args[i])), write)
+			l.add(element(l.placeOf(n.Args[i])), write)
 		}
 	}
 	switch types.ExprString(n.Fun) {

@@ -68,15 +68,11 @@ func typeNamed(p *Program, name string) (found *Type) {
 			return t
 		}
 	}
-	for _, u := range p.debug().units {
-		if u.pkg != "runtime" {
-			continue
+	r := p.debug().Reader()
+	for e, err := r.Next(); err == nil && e != nil && found == nil; e, err = r.Next() {
+		if nameOf(e) == name && e.Tag != dwarf.TagVariable && e.Tag != dwarf.TagSubprogram {
+			found = p.typeOf(e.Offset)
 		}
-		p.debug().children(u.Entry, func(e *dwarf.Entry) {
-			if found == nil && nameOf(e) == name && e.Tag != dwarf.TagVariable && e.Tag != dwarf.TagSubprogram {
-				found = p.typeOf(e.Offset)
-			}
-		})
 	}
 	return found
 }

@@ -5,18 +5,14 @@ import "debug/dwarf"
 // debugInfo is a program's debugging information. What is in a unit of it is read once it is asked for.
 type debugInfo struct {
 	*dwarf.Data
-	units    []*unit
-	runtimes map[uint64]dwarf.Offset // types by where package runtime has them
+	units     []*dwarf.Entry            // those that weren't read: the packages, or some files of them
+	functions map[uint64]*dwarf.Entry   // by where their code begins
+	variables map[variable]dwarf.Offset // the types of package variables
+	runtimes  map[uint64]dwarf.Offset   // types by where package runtime has them
 }
 
-// unit has the functions and variables of a package, or of some files of it.
-type unit struct {
-	*dwarf.Entry
-	pkg       string
-	isRead    bool
-	functions map[uint64]*dwarf.Entry // by where their code begins
-	variables map[string]dwarf.Offset // their types, by their names in the package
-}
+// variable is one of a package.
+type variable struct{ pkg, name string }
 
 // Attributes that Go adds.
 const (
@@ -31,23 +27,22 @@ func (p *Program) debug() *debugInfo {
 	if p.debugging != nil {
 		return p.debugging
 	}
-	p.debugging = &debugInfo{runtimes: map[uint64]dwarf.Offset{}}
-	data, err := p.elf.DWARF()
-	if err != nil {
-		return p.debugging
+	d := &debugInfo{
+		functions: map[uint64]*dwarf.Entry{}, variables: map[variable]dwarf.Offset{}, runtimes: map[uint64]dwarf.Offset{},
 	}
-	p.debugging.Data = data
-	r := data.Reader()
-	for {
-		e, err := r.Next()
-		if err != nil || e == nil {
-			return p.debugging
-		}
+	p.debugging = d
+	var err error
+	if d.Data, err = p.elf.DWARF(); err != nil {
+		return d
+	}
+	r := d.Reader()
+	for e, err := r.Next(); err == nil && e != nil; e, err = r.Next() {
 		if e.Tag == dwarf.TagCompileUnit {
-			p.debugging.units = append(p.debugging.units, &unit{Entry: e, pkg: nameOf(e)})
+			d.units = append(d.units, e)
 		}
 		r.SkipChildren()
 	}
+	return d
 }
 
 func nameOf(e *dwarf.Entry) string {
@@ -97,20 +92,28 @@ func (d *debugInfo) children(of *dwarf.Entry, visit func(e *dwarf.Entry)) {
 	}
 }
 
-// read reads what is in a unit.
-func (d *debugInfo) read(u *unit) {
-	if u.isRead {
-		return
+// read reads the units that is answers true for.
+func (d *debugInfo) read(is func(unit *dwarf.Entry) bool) {
+	left := d.units[:0]
+	for _, u := range d.units {
+		if is(u) {
+			d.readUnit(u)
+		} else {
+			left = append(left, u)
+		}
 	}
-	u.isRead, u.functions, u.variables = true, map[uint64]*dwarf.Entry{}, map[string]dwarf.Offset{}
-	d.children(u.Entry, func(e *dwarf.Entry) {
+	d.units = left
+}
+
+func (d *debugInfo) readUnit(u *dwarf.Entry) {
+	d.children(u, func(e *dwarf.Entry) {
 		switch e.Tag {
 		case dwarf.TagSubprogram:
 			if begin, ok := e.Val(dwarf.AttrLowpc).(uint64); ok {
-				u.functions[begin] = e
+				d.functions[begin] = e
 			}
 		case dwarf.TagVariable:
-			u.variables[nameInPackage(nameOf(e))] = offset(e, dwarf.AttrType)
+			d.variables[variable{nameOf(u), nameInPackage(nameOf(e))}] = offset(e, dwarf.AttrType)
 		default:
 			if at, ok := e.Val(attrGoType).(uint64); ok && at != 0 {
 				d.runtimes[at] = e.Offset
@@ -121,33 +124,21 @@ func (d *debugInfo) read(u *unit) {
 
 // function answers the entry of the function whose code begins at an address, or an empty one.
 func (d *debugInfo) function(begin uint64) *dwarf.Entry {
-	if d.Data != nil {
-		of, err := d.Reader().SeekPC(begin)
-		for _, u := range d.units {
-			if err == nil && u.Offset == of.Offset {
-				if d.read(u); u.functions[begin] != nil {
-					return u.functions[begin]
-				}
-			}
+	if d.functions[begin] == nil && d.Data != nil {
+		if of, err := d.Reader().SeekPC(begin); err == nil {
+			d.read(func(u *dwarf.Entry) bool { return u.Offset == of.Offset })
 		}
+	}
+	if f := d.functions[begin]; f != nil {
+		return f
 	}
 	return &dwarf.Entry{}
 }
 
 // variable answers the type of a variable of a package.
 func (p *Program) variable(pkg, name string) (t *Type, ok bool) {
-	return p.findVariable(func(path string) bool { return path == pkg }, name)
-}
-
-func (p *Program) findVariable(isPackage func(path string) bool, name string) (t *Type, ok bool) {
 	d := p.debug()
-	for _, u := range d.units {
-		if isPackage(u.pkg) {
-			d.read(u)
-			if at, ok := u.variables[name]; ok {
-				return p.typeOf(at), true
-			}
-		}
-	}
-	return nil, false
+	d.read(func(u *dwarf.Entry) bool { return nameOf(u) == pkg })
+	at, ok := d.variables[variable{pkg, name}]
+	return p.typeOf(at), ok
 }

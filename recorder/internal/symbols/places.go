@@ -4,6 +4,7 @@ import (
 	"go/ast"
 	"go/token"
 	"reflect"
+	"strconv"
 	"strings"
 )
 
@@ -150,12 +151,20 @@ func (l *locator) selector(e *ast.SelectorExpr) *place {
 	return y
 }
 
-// imported answers a variable of another package, which a file knows by a name that is most often the last part of
-// its path.
+// imported answers a variable of another package.
 func (l *locator) imported(pkg *ast.Ident, name string) *place {
-	isPackage := func(path string) bool { return path == pkg.Name || strings.HasSuffix(path, "/"+pkg.Name) }
-	if t, ok := l.p.findVariable(isPackage, name); ok && pkg.Obj == nil {
-		return &place{word: name, typ: t}
+	for _, i := range l.file.Imports {
+		path, _ := strconv.Unquote(i.Path.Value)
+		as := path[strings.LastIndexByte(path, '/')+1:] // most often
+		if i.Name != nil {
+			as = i.Name.Name
+		}
+		if as != pkg.Name || pkg.Obj != nil {
+			continue
+		}
+		if t, ok := l.p.variable(path, name); ok {
+			return &place{word: name, typ: t}
+		}
 	}
 	return nil
 }

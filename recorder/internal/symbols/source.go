@@ -38,39 +38,32 @@ func (s *source) covers(n ast.Node, line int) bool {
 }
 
 // functionAt answers what a line of a function is in: the declaration, or a function literal in it; nil if the file
-// has no such line. What the compiler makes of a go or defer statement is in the function that has the statement.
+// has no such line. What the compiler makes of a go or defer statement is in the function that has the statement. Of several
+// literals on a line it is the one that has the number in its function, or the first.
 func (s *source) functionAt(function string, line int) (found ast.Node) {
 	depth, number := literalOf(function)
-	for ; found == nil && depth >= 0; depth, number = depth-1, 0 {
-		for _, d := range s.file.Decls {
-			if s.covers(d, line) {
-				found = s.literalAt(d, line, depth, number)
+	deepest := -1
+	var visit func(in ast.Node, at, nth int)
+	visit = func(in ast.Node, at, nth int) {
+		if at > depth || !s.covers(in, line) {
+			return
+		}
+		if at > deepest || at == depth && nth == number {
+			found, deepest = in, at
+		}
+		n := 0
+		ast.Inspect(in, func(x ast.Node) bool {
+			lit, ok := x.(*ast.FuncLit)
+			if ok && x != in {
+				n++
+				visit(lit, at+1, n)
 			}
-		}
+			return !ok || x == in
+		})
 	}
-	return found
-}
-
-// literalAt answers the function literal on a line that is in so many, with itself, below a node. Of several it is the one
-// that is the literal of a number in its function, or the first.
-func (s *source) literalAt(in ast.Node, line, depth, number int) (found ast.Node) {
-	if depth == 0 {
-		return in
+	for _, d := range s.file.Decls {
+		visit(d, 0, 0)
 	}
-	n := 0
-	ast.Inspect(in, func(x ast.Node) bool {
-		lit, ok := x.(*ast.FuncLit)
-		if !ok || x == in {
-			return true
-		}
-		n++
-		if s.covers(lit, line) {
-			if l := s.literalAt(lit, line, depth-1, number); l != nil && (found == nil || depth == 1 && n == number) {
-				found = l
-			}
-		}
-		return false
-	})
 	return found
 }
 

@@ -31,12 +31,9 @@ type field struct {
 // information does: what maps and closures are made of.
 func (p *Program) TypeAt(at uint64) *Type {
 	d := p.debug()
-	for _, u := range d.units {
-		if u.pkg == "runtime" { // the linker puts all types there
-			d.read(u)
-		}
-	}
-	for _, key := range []uint64{at, p.types + at} { // some are told by the second
+	d.read(func(u *dwarf.Entry) bool { return nameOf(u) == "runtime" }) // where the linker puts all types
+	keys := []uint64{at, p.types + at}                                  // some are told by the second
+	for _, key := range keys {
 		if t := p.typeOf(d.runtimes[key]); t != nil {
 			return t
 		}

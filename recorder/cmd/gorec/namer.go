@@ -12,7 +12,7 @@ type namer struct{ program *symbols.Program }
 func (n namer) Variable(addr uint64, h *translate.Heap, uses []translate.Use) (name string, begin uint64) {
 	var list []symbols.Access
 	for _, u := range uses {
-		list = append(list, symbols.Access{Addr: addr, Size: u.Bytes, Write: u.Write, Frames: u.Frames, Object: (*symbols.Object)(h)})
+		list = append(list, symbols.Access{Addr: addr, Write: u.Write, Frames: u.Frames, Object: (*symbols.Object)(h)})
 	}
 	best := n.program.NameOf(list)
 	if best.Begin>>3 < addr>>3 {

@@ -5,7 +5,7 @@ import "debug/dwarf"
 // debugInfo is a program's debugging information. What is in a unit of it is read once it is asked for.
 type debugInfo struct {
 	*dwarf.Data
-	units     []*dwarf.Entry            // those that weren't read: the packages, or some files of them
+	units     map[string][]*dwarf.Entry // those that weren't read, by their packages
 	functions map[uint64]*dwarf.Entry   // by where their code begins
 	variables map[variable]dwarf.Offset // the types of package variables
 	runtimes  map[uint64]dwarf.Offset   // types by where package runtime has them
@@ -28,7 +28,8 @@ func (p *Program) debug() *debugInfo {
 		return p.debugging
 	}
 	d := &debugInfo{
-		functions: map[uint64]*dwarf.Entry{}, variables: map[variable]dwarf.Offset{}, runtimes: map[uint64]dwarf.Offset{},
+		units: map[string][]*dwarf.Entry{}, functions: map[uint64]*dwarf.Entry{},
+		variables: map[variable]dwarf.Offset{}, runtimes: map[uint64]dwarf.Offset{},
 	}
 	p.debugging = d
 	var err error
@@ -38,7 +39,7 @@ func (p *Program) debug() *debugInfo {
 	r := d.Reader()
 	for e, err := r.Next(); err == nil && e != nil; e, err = r.Next() {
 		if e.Tag == dwarf.TagCompileUnit {
-			d.units = append(d.units, e)
+			d.units[nameOf(e)] = append(d.units[nameOf(e)], e)
 		}
 		r.SkipChildren()
 	}
@@ -92,41 +93,32 @@ func (d *debugInfo) children(of *dwarf.Entry, visit func(e *dwarf.Entry)) {
 	}
 }
 
-// read reads the units that is answers true for.
-func (d *debugInfo) read(is func(unit *dwarf.Entry) bool) {
-	left := d.units[:0]
-	for _, u := range d.units {
-		if is(u) {
-			d.readUnit(u)
-		} else {
-			left = append(left, u)
-		}
+// read reads what is in a package's units.
+func (d *debugInfo) read(pkg string) {
+	for _, u := range d.units[pkg] {
+		d.children(u, func(e *dwarf.Entry) {
+			switch e.Tag {
+			case dwarf.TagSubprogram:
+				if begin, ok := e.Val(dwarf.AttrLowpc).(uint64); ok {
+					d.functions[begin] = e
+				}
+			case dwarf.TagVariable:
+				d.variables[variable{pkg, nameInPackage(nameOf(e))}] = offset(e, dwarf.AttrType)
+			default:
+				if at, ok := e.Val(attrGoType).(uint64); ok && at != 0 {
+					d.runtimes[at] = e.Offset
+				}
+			}
+		})
 	}
-	d.units = left
-}
-
-func (d *debugInfo) readUnit(u *dwarf.Entry) {
-	d.children(u, func(e *dwarf.Entry) {
-		switch e.Tag {
-		case dwarf.TagSubprogram:
-			if begin, ok := e.Val(dwarf.AttrLowpc).(uint64); ok {
-				d.functions[begin] = e
-			}
-		case dwarf.TagVariable:
-			d.variables[variable{nameOf(u), nameInPackage(nameOf(e))}] = offset(e, dwarf.AttrType)
-		default:
-			if at, ok := e.Val(attrGoType).(uint64); ok && at != 0 {
-				d.runtimes[at] = e.Offset
-			}
-		}
-	})
+	delete(d.units, pkg)
 }
 
 // function answers the entry of the function whose code begins at an address, or an empty one.
 func (d *debugInfo) function(begin uint64) *dwarf.Entry {
 	if d.functions[begin] == nil && d.Data != nil {
 		if of, err := d.Reader().SeekPC(begin); err == nil {
-			d.read(func(u *dwarf.Entry) bool { return u.Offset == of.Offset })
+			d.read(nameOf(of))
 		}
 	}
 	if f := d.functions[begin]; f != nil {
@@ -138,7 +130,7 @@ func (d *debugInfo) function(begin uint64) *dwarf.Entry {
 // variable answers the type of a variable of a package.
 func (p *Program) variable(pkg, name string) (t *Type, ok bool) {
 	d := p.debug()
-	d.read(func(u *dwarf.Entry) bool { return nameOf(u) == pkg })
+	d.read(pkg)
 	at, ok := d.variables[variable{pkg, name}]
 	return p.typeOf(at), ok
 }

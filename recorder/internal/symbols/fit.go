@@ -65,9 +65,7 @@ func (m *memory) fit(u use) Name {
 		n.rank = m.fitContent(u.home)
 	case m.isMap || m.isField() || u.kind == mapPiece || u.kind == noPiece:
 		return Name{}
-	case m.typ == nil:
-		n.rank = m.fitUnknown(u)
-	case u.home != nil:
+	case m.typ != nil && u.home != nil:
 		n.Word, n.rank = m.fitTypes(u)
 	case m.several && u.kind == elementPiece:
 		n.rank = likely - 10
@@ -95,18 +93,6 @@ func (m *memory) fitContent(home *Type) int {
 		}
 	}
 	return noFit
-}
-
-// fitUnknown goes by the access alone.
-func (m *memory) fitUnknown(u use) int {
-	switch {
-	case u.typ == nil || m.width == 0:
-	case u.typ.Size == m.width:
-		return guess + 15
-	case u.typ.Size < m.width && u.kind != elementPiece:
-		return guess - 10
-	}
-	return guess
 }
 
 // fitTypes looks for the use's type on the way from the object to the part.

@@ -9,7 +9,6 @@ import (
 // Access is what is known of a read or a write, or of an operation on a lock, a channel and the like.
 type Access struct {
 	Addr   uint64
-	Size   int
 	Write  bool
 	Frames []Frame // the calls, the innermost first
 	Object *Object // the heap object, if the address is in one
@@ -100,7 +99,6 @@ type memory struct {
 	several bool  // it has elements of that type
 	isMap   bool  // it is of what a map holds, which is one variable
 	steps   []step
-	width   uint64 // of the access; 0: unknown
 	write   bool
 	owner   *place  // of what a package variable was made with
 	calls   []Frame // of Go's library, that came to it
@@ -108,11 +106,7 @@ type memory struct {
 
 // memoryOf answers what is known of an access's memory.
 func (p *Program) memoryOf(a Access) *memory {
-	m := &memory{write: a.Write}
-	if a.Size > 1 {
-		m.width = uint64(a.Size)
-	}
-	o := a.Object
+	m, o := &memory{write: a.Write}, a.Object
 	if s, ok := p.staticAt(a.Addr); ok && o == nil {
 		m.owner = s.place
 		m.be(s.home, a.Addr-p.moved-s.begin, s.end-s.begin)

@@ -98,7 +98,7 @@ func (e expectation) caller(p *Program) []Frame {
 }
 
 func (e expectation) name(t *testing.T, p *Program, f Frame) Name {
-	a := Access{Addr: heapBase + e.offset, Size: 1, Write: e.verb == "write", Frames: append(e.caller(p), f)}
+	a := Access{Addr: heapBase + e.offset, Write: e.verb == "write", Frames: append(e.caller(p), f)}
 	switch e.verb {
 	case "use":
 		return p.Object(a)
@@ -165,7 +165,7 @@ func TestAllPlaces(t *testing.T) {
 			fs := p.Frames(f.entry + at)
 			o := objects[int(f.entry/16+at)%len(objects)]
 			for offset := uint64(0); offset < 80; offset += 16 {
-				a := Access{Addr: heapBase + offset, Size: int(offset) / 2, Write: at%2 == 0, Frames: fs, Object: o}
+				a := Access{Addr: heapBase + offset, Write: at%2 == 0, Frames: fs, Object: o}
 				if n := p.Name(a); n.Word != "" {
 					named++
 				}

@@ -2,6 +2,7 @@ package symbols
 
 import (
 	"debug/dwarf"
+	"go/ast"
 	"reflect"
 	"strings"
 )
@@ -31,9 +32,8 @@ type field struct {
 // information does: what maps and closures are made of.
 func (p *Program) TypeAt(at uint64) *Type {
 	d := p.debug()
-	d.read(func(u *dwarf.Entry) bool { return nameOf(u) == "runtime" }) // where the linker puts all types
-	keys := []uint64{at, p.types + at}                                  // some are told by the second
-	for _, key := range keys {
+	d.read("runtime")                                // where the linker puts all types
+	for _, key := range []uint64{at, p.types + at} { // some are told by the second
 		if t := p.typeOf(d.runtimes[key]); t != nil {
 			return t
 		}
@@ -185,18 +185,16 @@ func (t *Type) isShapeOf(o *Type) bool {
 // isOpaque reports whether a type is a struct of Go's library that shows nobody its fields, so that a program takes it
 // for one variable. One that has locks of its own isn't: what it does under them isn't what it does without.
 func (t *Type) isOpaque() bool {
-	if t == nil || t.Kind != reflect.Struct || !isExported(t.short()) || !t.p.isLibrary(t.pkg()) {
+	if t == nil || t.Kind != reflect.Struct || !ast.IsExported(t.short()) || !t.p.isLibrary(t.pkg()) {
 		return false
 	}
 	for _, f := range t.members() {
-		if isExported(f.name) {
+		if ast.IsExported(f.name) {
 			return false
 		}
 	}
 	return t.isSync() || !t.hasSync()
 }
-
-func isExported(name string) bool { return name != "" && name[0] >= 'A' && name[0] <= 'Z' }
 
 // isSync reports whether a type is one of package sync or sync/atomic.
 func (t *Type) isSync() bool {
@@ -206,18 +204,13 @@ func (t *Type) isSync() bool {
 
 // hasSync reports whether a value of the type has a lock, an atomic value or a channel in it.
 func (t *Type) hasSync() bool {
-	switch {
-	case t == nil:
-		return false
-	case t.isSync() || t.Kind == reflect.Chan:
-		return true
-	case t.Kind == reflect.Array:
-		return t.Elem().hasSync()
+	if t == nil || t.isSync() || t.Kind == reflect.Chan {
+		return t != nil
 	}
 	for _, f := range t.members() {
 		if f.typ.hasSync() {
 			return true
 		}
 	}
-	return false
+	return t.Kind == reflect.Array && t.Elem().hasSync()
 }

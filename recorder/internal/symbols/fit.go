@@ -98,9 +98,9 @@ func (m *memory) fitContent(home *Type) int {
 // fitTypes looks for the use's type on the way from the object to the part.
 func (m *memory) fitTypes(u use) (word string, rank int) {
 	for i := 0; i <= len(m.steps); i++ {
-		t, isElement := m.typ, i > 0 && m.steps[i-1].field == ""
+		t, isElement := m.typ, i > 0 && m.steps[i-1].name == ""
 		if i > 0 {
-			t = m.steps[i-1].of
+			t = m.steps[i-1].typ
 		}
 		switch {
 		case i == 0 && m.several || !u.home.alike(t):

@@ -125,7 +125,7 @@ func (m *memory) be(t *Type, at, size uint64) {
 	case t.pkg() != "runtime" && t.Size > 0:
 		m.typ = t
 		if m.several = size >= 2*t.Size; m.several {
-			m.steps = []step{{of: t}}
+			m.steps = []step{{field: field{typ: t}}}
 		}
 		steps, _, _ := descend(t, at%t.Size)
 		m.steps = append(m.steps, steps...)
@@ -144,7 +144,7 @@ func (m *memory) home() (*Type, []step) {
 	for t != nil && t.Kind == reflect.Array && t.short() == "" {
 		t = t.Elem()
 	}
-	for len(steps) > 0 && steps[0].field == "" {
+	for len(steps) > 0 && steps[0].name == "" {
 		steps = steps[1:]
 	}
 	return t, steps

@@ -1,6 +1,10 @@
 package symbols
 
-import "testing"
+import (
+	"path/filepath"
+	"runtime"
+	"testing"
+)
 
 func TestPart(t *testing.T) {
 	const accountSize = 136
@@ -65,6 +69,20 @@ func TestOpaque(t *testing.T) {
 			}
 		}
 	})
+}
+
+// TestLibrary: a package is Go's library's if its source lies there, whatever its path looks like.
+func TestLibrary(t *testing.T) {
+	p := openBuilt(t, filepath.Join(runtime.GOROOT(), "bin", "go"), "names", nil)
+	p.module = "" // as of tests that older versions of Go have built
+	for pkg, want := range map[string]bool{
+		"bytes": true, "net/http": true, "vendor/golang.org/x/net/idna": true, "main": false, "myapp": false, "myapp/store": false,
+		"myapp_test": false, "example.com/names/store": false, "": false,
+	} {
+		if got := p.isLibrary(pkg); got != want {
+			t.Errorf("%q: got %v, want %v", pkg, got, want)
+		}
+	}
 }
 
 // TestOfMap: what the runtime makes of a map is no variable by itself.

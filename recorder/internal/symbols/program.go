@@ -11,7 +11,9 @@ import (
 	"encoding/binary"
 	"errors"
 	"fmt"
+	"os"
 	"path"
+	"path/filepath"
 	"sort"
 	"strings"
 )
@@ -22,7 +24,7 @@ type Program struct {
 	lines   *lineTable
 	types   uint64       // where package runtime has the types
 	objects []elf.Symbol // package variables, in the order of their addresses
-	modules []string     // the paths of the main module and of those that it needs
+	module  string       // the main module, if the binary tells it
 	goroot  string       // where Go's source lay, or "" if the paths are trimmed
 	version int          // 19 for Go 1.19
 	moved   uint64       // how far the running program lies from where the file says
@@ -32,7 +34,8 @@ type Program struct {
 	typeAt    map[dwarf.Offset]*Type
 	locals    map[Frame][]local
 	sources   map[string]*source
-	statics   []static // in the order of their addresses, once they were asked for
+	library   map[string]bool // whether a package is Go's
+	statics   []static        // in the order of their addresses, once they were asked for
 }
 
 var order = binary.LittleEndian
@@ -45,14 +48,11 @@ func Open(path string) (*Program, error) {
 	}
 	p := &Program{
 		elf: file, version: 27, frames: map[uint64][]Frame{}, typeAt: map[dwarf.Offset]*Type{},
-		locals: map[Frame][]local{}, sources: map[string]*source{},
+		locals: map[Frame][]local{}, sources: map[string]*source{}, library: map[string]bool{},
 	}
 	if info, err := buildinfo.ReadFile(path); err == nil {
 		fmt.Sscanf(info.GoVersion, "go1.%d", &p.version)
-		p.modules = append(p.modules, info.Main.Path)
-		for _, m := range info.Deps {
-			p.modules = append(p.modules, m.Path)
-		}
+		p.module = info.Main.Path
 	}
 	if err := p.readSymbols(); err != nil {
 		file.Close()
@@ -151,19 +151,25 @@ func (p *Program) IsStandard(f Frame) bool {
 	case p.goroot != "":
 		return strings.HasPrefix(f.File, p.goroot+"/src/")
 	}
-	return p.isLibrary(PackageOf(f.Function))
+	return !p.isOwn(PackageOf(f.Function))
 }
 
-// isLibrary tells by a package's path whether it is of Go's library.
+// isLibrary reports whether a package is of Go's library.
 func (p *Program) isLibrary(pkg string) bool {
-	first, _, _ := strings.Cut(pkg, "/")
-	if pkg == "" || pkg == "main" || pkg == "command-line-arguments" || strings.Contains(first, ".") {
-		return false
-	}
-	for _, m := range p.modules {
-		if path := strings.TrimSuffix(pkg, "_test"); path == m || strings.HasPrefix(path, m+"/") {
-			return false
+	is, ok := p.library[pkg]
+	if !ok {
+		if is = pkg != "" && !p.isOwn(pkg); is && p.goroot != "" {
+			info, err := os.Stat(filepath.Join(p.goroot, "src", pkg))
+			is = err == nil && info.IsDir()
 		}
+		p.library[pkg] = is
 	}
-	return true
+	return is
+}
+
+// isOwn tells from a package's path alone whether it isn't Go's.
+func (p *Program) isOwn(pkg string) bool {
+	first, _, _ := strings.Cut(pkg, "/")
+	return pkg == "main" || pkg == "command-line-arguments" || strings.Contains(first, ".") ||
+		pkg == p.module || strings.HasPrefix(pkg, p.module+"/")
 }

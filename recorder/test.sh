@@ -29,6 +29,6 @@ if [ -n "$unformatted" ]; then
     exit 1
 fi
 go vet ./...
-go test -timeout 60m ./cmd/gorec ./internal/hooklog ./internal/patch ./internal/symbols ./internal/trace ./internal/translate
+go test -timeout 60m ./cmd/gorec ./internal/hooklog ./internal/patch ./internal/report ./internal/symbols ./internal/trace ./internal/translate
 go test -parallel 2 -timeout 60m ./internal/endtoend -judge "$judge"
 echo 'recorder: ok'

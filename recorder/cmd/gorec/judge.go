@@ -7,10 +7,10 @@ import (
 	"os"
 	"os/exec"
 	"path/filepath"
-	"regexp"
 	"strings"
 
 	"gorace.local/recorder/internal/process"
+	"gorace.local/recorder/internal/report"
 )
 
 // A judge is the command gorace.
@@ -25,14 +25,15 @@ func findJudge(named string) (*judge, error) {
 	if named == "" {
 		named = os.Getenv("GOREC_JUDGE")
 	}
-	words := strings.Fields(named)
-	if isFile(named) {
-		words = []string{named}
+	words := []string{named}
+	if _, err := exec.LookPath(named); err != nil { // else its path may have blanks
+		words = strings.Fields(named)
 	}
 	if len(words) == 0 {
 		words = []string{"gorace"}
-		if own, err := os.Executable(); err == nil && isFile(filepath.Join(filepath.Dir(own), "gorace")) {
-			words[0] = filepath.Join(filepath.Dir(own), "gorace")
+		own, _ := os.Executable()
+		if beside, err := exec.LookPath(filepath.Join(filepath.Dir(own), "gorace")); err == nil {
+			words[0] = beside
 		}
 	}
 	path, err := exec.LookPath(words[0])
@@ -44,52 +45,50 @@ func findJudge(named string) (*judge, error) {
 	case len(words) == 1:
 		named = shownJudge(path)
 	}
-	if path, err = filepath.Abs(path); err != nil { // as of tests, which run elsewhere
-		return nil, err
-	}
-	return &judge{append([]string{path}, words[1:]...), named}, nil
-}
-
-func isFile(path string) bool {
-	st, err := os.Stat(path)
-	return err == nil && !st.IsDir()
+	words[0], err = filepath.Abs(path) // as of tests, which run elsewhere
+	return &judge{words, named}, err
 }
 
 // shownJudge is how a user may call a judge: by its name where the PATH has it.
 func shownJudge(path string) string {
-	if onPath, err := exec.LookPath("gorace"); err == nil {
-		a, failed := os.Stat(onPath)
-		b, err := os.Stat(path)
-		if failed == nil && err == nil && os.SameFile(a, b) {
-			return "gorace"
-		}
+	onPath, _ := exec.LookPath("gorace")
+	a, noneThere := os.Stat(onPath)
+	b, err := os.Stat(path)
+	if noneThere == nil && err == nil && os.SameFile(a, b) {
+		return "gorace"
 	}
 	return shown(path)
 }
 
-// cleanLine is in the report on a trace without races.
-var cleanLine = regexp.MustCompile(`(?m)^clean: `)
+// turnedFlag is the judge's flag for orders in which critical sections and messages change places.
+const turnedFlag = "--turned"
 
-// ask has a command judge a trace.
-func (j *judge) ask(k *process.Keeper, command []string, path string, notes io.Writer) (*report, error) {
-	in, err := os.Open(path)
-	if err != nil {
-		return &report{}, err
+// ask has the judge judge a trace.
+func (r *run) ask(trace *os.File) (*report.Report, error) {
+	command := append([]string(nil), r.judge.words...)
+	if r.predict {
+		command = append(command, "predict")
+	} else {
+		command = append(command, "check")
 	}
-	defer in.Close()
+	if r.turned {
+		command = append(command, turnedFlag)
+	}
 	var output strings.Builder
-	cmd := exec.Command(j.words[0], append(j.words[1:len(j.words):len(j.words)], command...)...)
-	cmd.Stdin, cmd.Stdout, cmd.Stderr = in, &output, notes
-	err = k.Run(cmd, process.Judge)
-	r := readReport(output.String())
+	cmd := exec.Command(command[0], command[1:]...)
+	cmd.Stdin, cmd.Stdout, cmd.Stderr = trace, &output, r.notes
+	err := r.keeper.Run(cmd, process.Judge)
+	o := report.Read(output.String())
 	var ended *exec.ExitError
 	switch {
 	case errors.As(err, &ended) && ended.ExitCode() > 0:
-		r.status = ended.ExitCode()
+		o.Status = ended.ExitCode()
+	case err == nil && !o.IsClean:
+		err = fmt.Errorf("%s ended with 0 and didn't say that it is clean", r.judge.shown)
+		fallthrough
 	case err != nil:
-		return r, fmt.Errorf("the trace wasn't judged: %w", err)
-	case !cleanLine.MatchString(r.text):
-		return r, fmt.Errorf("the trace wasn't judged: %s ended with 0 and didn't say that it is clean", j.shown)
+		io.WriteString(r.out, o.Text)
+		return nil, fmt.Errorf("the trace wasn't judged: %w", err)
 	}
-	return r, nil
+	return o, nil
 }

@@ -1,72 +1,118 @@
 package main
 
 import (
+	"bufio"
 	"bytes"
+	"encoding/json"
 	"io"
 	"os"
+	"os/exec"
 	"sync"
 	"time"
+
+	"gorace.local/recorder/internal/report"
 )
 
-// lines hands on whole lines of what is written, by several at once too.
-type lines struct {
-	to   func(line []byte) error
-	mu   sync.Mutex
-	last []byte // which has no end yet
-}
-
-// longestLine is the longest that isn't handed on in parts.
-const longestLine = 1 << 16
-
-func (l *lines) Write(b []byte) (int, error) {
-	l.mu.Lock()
-	defer l.mu.Unlock()
-	l.last = append(l.last, b...)
-	for {
-		n := bytes.IndexByte(l.last, '\n') + 1
-		if n == 0 && len(l.last) > longestLine {
-			n = len(l.last)
-		}
-		if n == 0 {
-			return len(b), nil
-		}
-		if err := l.to(l.last[:n]); err != nil {
-			return 0, err
-		}
-		l.last = l.last[n:]
-	}
-}
-
-// end ends the last line, so that a report begins a line.
-func (l *lines) end() {
-	l.mu.Lock()
-	defer l.mu.Unlock()
-	if len(l.last) > 0 {
-		l.to(append(l.last, '\n'))
-		l.last = nil
-	}
-}
-
-// pipeTo is a pipe by which a program's output goes on. finish waits for it, unless what the program started keeps it.
-func pipeTo(to *lines) (w *os.File, finish func(), err error) {
+// piped runs a program, of which the output goes on line by line; its errors too, if nothing else takes them. What the program
+// started may keep the pipe open: it isn't waited for.
+func piped(cmd *exec.Cmd, to lineWriter, run func() error) error {
 	r, w, err := os.Pipe()
 	if err != nil {
-		return nil, nil, err
+		return err
 	}
 	done := make(chan struct{})
 	go func() {
 		defer close(done)
-		io.Copy(to, r)
-		to.end()
+		to.readFrom(r)
 		io.Copy(io.Discard, r) // where nothing can be written any more, the program needn't wait
 	}()
-	return w, func() {
-		w.Close()
-		select {
-		case <-done:
-		case <-time.After(2 * time.Second):
+	if cmd.Stdout = w; cmd.Stderr == nil {
+		cmd.Stderr = w
+	}
+	err = run()
+	w.Close()
+	select {
+	case <-done:
+	case <-time.After(2 * time.Second):
+	}
+	r.Close()
+	<-done
+	return err
+}
+
+// A lineWriter takes lines.
+type lineWriter func(line []byte) error
+
+// longestLine is the longest that isn't handed on in parts.
+const longestLine = 1 << 16
+
+// readFrom hands on all lines. The last one gets an end if it has none, so that a report begins a line.
+func (to lineWriter) readFrom(r io.Reader) {
+	in := bufio.NewReaderSize(r, longestLine)
+	for {
+		line, err := in.ReadSlice('\n')
+		if err == nil || err == bufio.ErrBufferFull {
+			if to(line) != nil {
+				return
+			}
+			continue
 		}
-		r.Close()
-		<-done
-	}, nil
+		if len(line) > 0 {
+			to(append(line, '\n'))
+		}
+		return
+	}
+}
+
+// Write hands on lines, which are whole.
+func (to lineWriter) Write(b []byte) (int, error) {
+	for _, line := range bytes.SplitAfter(b, []byte("\n")) {
+		if len(line) > 0 {
+			if err := to(line); err != nil {
+				return 0, err
+			}
+		}
+	}
+	return len(b), nil
+}
+
+// An event is a line of -json. The last one has the verdict.
+type event struct {
+	Action    string // output; race, of one race; predicted, of one; pass, fail or racing, with the verdict
+	Package   string
+	Output    string       `json:",omitempty"`
+	Elapsed   float64      `json:",omitempty"`
+	Race      *report.Race `json:",omitempty"`
+	Verdict   *verdict     `json:",omitempty"`
+	Predicted *report.Race `json:",omitempty"`
+}
+
+// writeJSON has what is written be lines of JSON. At the end those on the races come, and the last one.
+func (s *session) writeJSON() (end func(*run)) {
+	var mu sync.Mutex // the program and gorec write side by side
+	to := json.NewEncoder(s.out)
+	to.SetEscapeHTML(false)
+	write := func(e event) error {
+		mu.Lock()
+		defer mu.Unlock()
+		e.Package = s.path
+		return to.Encode(e)
+	}
+	s.piped = func(line []byte) error { return write(event{Action: "output", Output: string(line)}) }
+	s.out, s.notes = s.piped, s.piped
+	return func(r *run) {
+		for _, o := range r.reports {
+			for i := range o.Races {
+				write(event{Action: "race", Race: &o.Races[i]})
+			}
+			for i := range o.Predicted {
+				write(event{Action: "predicted", Predicted: &o.Predicted[i]})
+			}
+		}
+		action, is := map[int]string{0: "pass", cutOff: "pass", racing: "racing"}[r.Status]
+		if !is {
+			action = "fail"
+		}
+		write(event{Action: action, Elapsed: r.elapsed.Seconds(), Verdict: &r.verdict})
+	}
 }

@@ -6,22 +6,17 @@ import (
 	"os/exec"
 	"strings"
 	"testing"
+	"testing/iotest"
 )
 
-// TestLastLine: a report begins a line, also behind output that ends within one.
+// TestLastLine: a report begins a line, also after output that ends within one.
 func TestLastLine(t *testing.T) {
 	for script, want := range map[string]string{
 		"printf bye": "bye\n", "echo bye": "bye\n", "printf 'a\nb'; echo c >&2": "a\nbc\n", "true": "",
 	} {
 		var got strings.Builder
 		cmd := exec.Command("sh", "-c", script)
-		w, finish, err := pipeTo(&lines{to: func(line []byte) error { got.Write(line); return nil }})
-		if err != nil {
-			t.Fatal(err)
-		}
-		cmd.Stdout, cmd.Stderr = w, w
-		err = cmd.Run()
-		finish()
+		err := piped(cmd, func(line []byte) error { got.Write(line); return nil }, cmd.Run)
 		if got.String() != want || err != nil {
 			t.Errorf("%s: %q, %v", script, got.String(), err)
 		}
@@ -32,15 +27,10 @@ func TestLastLine(t *testing.T) {
 func TestLines(t *testing.T) {
 	long := strings.Repeat("x", longestLine)
 	var got []string
-	l := &lines{to: func(line []byte) error { got = append(got, string(line)); return nil }}
-	for _, part := range []string{"a", "b\nc\n", "\n", long, "y", "z\n", "d"} {
-		if n, err := l.Write([]byte(part)); n != len(part) || err != nil {
-			t.Fatal(n, err)
-		}
-	}
-	l.end()
-	l.end()
-	if want := []string{"ab\n", "c\n", "\n", long + "y", "z\n", "d\n"}; fmt.Sprint(got) != fmt.Sprint(want) {
+	to := lineWriter(func(line []byte) error { got = append(got, string(line)); return nil })
+	to.readFrom(iotest.HalfReader(strings.NewReader("ab\nc\n\n" + long + "yz\nd")))
+	fmt.Fprint(to, "e\nf\n")
+	if want := []string{"ab\n", "c\n", "\n", long, "yz\n", "d\n", "e\n", "f\n"}; fmt.Sprint(got) != fmt.Sprint(want) {
 		t.Errorf("got %.200q", got)
 	}
 }
@@ -48,13 +38,7 @@ func TestLines(t *testing.T) {
 // TestNoOutput: a program ends though its output can't be written.
 func TestNoOutput(t *testing.T) {
 	cmd := exec.Command("sh", "-c", "head -c 1000000 /dev/zero; echo")
-	w, finish, err := pipeTo(&lines{to: func([]byte) error { return errors.New("no space left") }})
-	if err != nil {
-		t.Fatal(err)
-	}
-	cmd.Stdout = w
-	if err := cmd.Run(); err != nil {
+	if err := piped(cmd, func([]byte) error { return errors.New("no space left") }, cmd.Run); err != nil {
 		t.Error(err)
 	}
-	finish()
 }

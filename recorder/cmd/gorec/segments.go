@@ -1,106 +1,76 @@
 package main
 
 import (
+	"bytes"
 	"fmt"
 	"io"
 	"os"
+	"path/filepath"
 	"sort"
 	"strings"
 	"time"
 
-	"gorace.local/recorder/internal/trace"
+	"gorace.local/recorder/internal/hooklog"
+	"gorace.local/recorder/internal/report"
 	"gorace.local/recorder/internal/translate"
 )
 
-// judgedBy is the judge's command for a segment.
-func (r *run) judgedBy() (command []string) {
-	switch {
-	case !r.predict:
-		return []string{"check"}
-	case r.turned:
-		return []string{"predict", turnedFlag}
-	}
-	return []string{"predict"}
-}
-
-// turnedFlag is the judge's flag for orders in which critical sections and messages change places.
-const turnedFlag = "--turned"
-
-// judgeSegment has a segment of a log judged. Where it is the only one of the run its report is printed as it is; else that of a
-// clean one is a note. Names are found only if somebody will see the trace.
-func (r *run) judgeSegment(s *translate.Segment, of *hookLog) error {
-	path := r.trace
-	if r.first != nil {
-		path += ".next"
-	}
+// judgeSegment has a segment judged. Names are found only if somebody will see the trace.
+func (r *run) judgeSegment(s *translate.Segment) error {
+	r.segments++
 	isNamed := r.predict || s.Last && (!r.isTest || r.kept != "")
 	if isNamed {
-		of.name(s)
+		r.nameObjects(s)
 	}
-	o, err := r.judgeTrace(s.Trace, path)
-	if err == nil && o.status != 0 && !isNamed && (len(o.all()) == 0 || r.isNew(o)) {
-		of.name(s)
-		o, err = r.judgeTrace(s.Trace, path)
+	o, err := r.judgeTrace(s)
+	if err == nil && o.Status != 0 && !isNamed && (len(o.All) == 0 || r.isNew(o)) {
+		r.nameObjects(s)
+		o, err = r.judgeTrace(s)
 	}
-	r.segments++
 	if err != nil {
-		io.WriteString(r.out, o.text)
 		return err
 	}
-	summary := o.summary
-	goesOn := !s.Last && summary.Cut == ""
-	if summary.Cut == "" {
-		summary.Cut = s.End + s.Cut
-	}
-	only := r.segments == 1 && s.Last
-	if only {
-		fmt.Fprintln(r.notes, "gorec: "+summary.Counts())
-	}
 	isNew := r.isNew(o)
-	if only {
-		io.WriteString(r.out, o.text)
-	} else {
-		r.tellSegment(o, isNew)
-	}
 	if isNew {
-		moments, err := s.Trace.Moments(o.events())
-		if err != nil {
+		if err := o.Learn(s.Trace.Moments, s.Labels, r.stack); err != nil {
 			return err
 		}
-		o.learn(moments, s.Labels, of.stack)
-		o.explain(r.out)
 		r.reports = append(r.reports, o)
 	}
-	if isNew || only {
-		o.tellPredicted(r.out)
-	}
-	if only {
-		tellCut(r.out, summary.Events, summary.Cut)
-	}
-	r.add(o, goesOn)
+	r.tellSegment(o, s.Last && r.segments == 1, isNew)
+	r.add(o, s)
 	return nil
 }
 
 // judgeTrace writes a trace, and has it judged.
-func (r *run) judgeTrace(t *trace.Trace, path string) (*report, error) {
+func (r *run) judgeTrace(s *translate.Segment) (*report.Report, error) {
+	path := r.trace
+	if r.first != nil {
+		path += ".next"
+	}
 	file, err := os.Create(path)
 	if err != nil {
-		return &report{}, err
+		return nil, err
 	}
 	defer file.Close()
-	summary, err := t.Write(file)
-	if err != nil {
-		return &report{}, err
+	summary, err := s.Trace.Write(file)
+	if err == nil {
+		_, err = file.Seek(0, io.SeekStart)
 	}
-	o, err := r.judge.ask(r.keeper, r.judgedBy(), path, r.notes)
-	o.summary = summary
+	if err != nil {
+		return nil, err
+	}
+	o, err := r.ask(file)
+	if err == nil {
+		o.Summary = summary
+	}
 	return o, err
 }
 
 // isNew reports whether a segment has a race at other places than those that were told.
-func (r *run) isNew(o *report) bool {
-	for _, of := range o.all() {
-		if !r.told[of.places()] && !r.told[of.key()] {
+func (r *run) isNew(o *report.Report) bool {
+	for _, of := range o.All {
+		if !r.told[of.Key()] {
 			return true
 		}
 	}
@@ -110,60 +80,64 @@ func (r *run) isNew(o *report) bool {
 // noteEach is the time between notes of segments that have no other race than those before.
 const noteEach = 10 * time.Second
 
-// tellSegment tells of one of several segments.
-func (r *run) tellSegment(o *report, isNew bool) {
-	note, _, _ := strings.Cut(o.text, "\n")
-	isKnown := o.status == 0
-	if len(o.all()) > 0 && !isNew {
-		isKnown, note = true, "only races at places that were reported before"
+// tellSegment tells of a segment. Of a clean one among several there is a note, and of one without a new race, now and then.
+func (r *run) tellSegment(o *report.Report, isOnly, isNew bool) {
+	which, note := fmt.Sprintf("gorec: segment %d: ", r.segments), ""
+	switch {
+	case isOnly:
+		which = "gorec: "
+	case len(o.All) > 0 && !isNew:
+		note = "only races at places that were reported before"
+	case o.Status == 0:
+		note, _, _ = strings.Cut(o.Text, "\n")
 	}
-	if isKnown && time.Since(r.noted) < noteEach {
+	if note != "" && time.Since(r.noted) < noteEach {
 		return
 	}
-	fmt.Fprintf(r.notes, "gorec: segment %d: %s\n", r.segments, o.summary.Counts())
-	if !isKnown {
-		io.WriteString(r.out, o.text)
+	fmt.Fprintln(r.notes, which+o.Summary.Counts())
+	if note != "" {
+		r.noted = time.Now()
+		fmt.Fprintln(r.notes, which+note)
 		return
 	}
-	r.noted = time.Now()
-	fmt.Fprintf(r.notes, "gorec: segment %d: %s\n", r.segments, note)
+	o.Tell(r.out)
 }
 
-// add adds a segment to what is known of the run; followed says that another one goes on where
-// it is cut off.
-func (r *run) add(o *report, followed bool) {
-	for _, of := range o.all() {
-		r.told[of.key()] = true
+// add adds a segment to what is known of the run.
+func (r *run) add(o *report.Report, s *translate.Segment) {
+	for _, of := range o.All {
+		r.told[of.Key()], r.told[report.PredictedKey+of.Key()] = true, true // what races needn't be predicted any more
 	}
-	if len(o.all()) > 0 {
+	if len(o.All) > 0 {
 		if r.racing++; r.first == nil {
 			r.first = o
 		}
 	}
-	r.Status = worse(o.status, r.Status)
-	r.Races += len(o.races)
-	r.Predicted += len(o.predicted)
-	r.NotSearched += o.notSearched
-	r.Events += o.summary.Events
-	r.Records += o.summary.Records
-	reason, _, _ := strings.Cut(o.summary.Cut, ", at ")
+	r.Status = worse(o.Status, r.Status)
+	r.Races += len(o.Races)
+	r.Predicted += len(o.Predicted)
+	r.NotSearched += o.NotSearched
+	r.Events += o.Summary.Events
+	r.Records += o.Summary.Records
 	switch {
-	case reason != "" && followed:
-		r.ends[reason]++
-	case reason != "":
-		r.Cut = o.summary.Cut
+	case o.Summary.Cut != "":
+		r.Cut = o.Summary.Cut
+	case !s.Last: // it goes on in another one
+		r.ends[s.End]++
+	case s.Cut != "":
+		r.Cut = s.Cut
 	}
 }
 
-// tell tells at the end what lies between segments.
-func (r *run) tell() {
-	if r.segments == 1 {
-		return
-	}
-	if r.predict {
+// tellSegments tells at the end where the trace is cut off, and what lies between segments.
+func (r *run) tellSegments() {
+	if r.segments > 1 && r.predict {
 		fmt.Fprintf(r.out, "gorec: of all traces predicted: %d, not searched: %d variables\n", r.Predicted, r.NotSearched)
 	}
 	tellCut(r.out, r.Events, r.Cut)
+	if r.segments == 1 {
+		return
+	}
 	var reasons []string
 	for reason, n := range r.ends {
 		reasons = append(reasons, fmt.Sprintf("%s (%d)", reason, n))
@@ -171,4 +145,62 @@ func (r *run) tell() {
 	sort.Strings(reasons)
 	fmt.Fprintf(r.out, "gorec: judged in %d segments, %d of them with races; races of accesses in different ones are missed; "+
 		"they ended with %s\n", r.segments, r.racing, strings.Join(reasons, ", "))
+}
+
+// tellCut writes where a trace is cut off.
+func tellCut(w io.Writer, events int, cut string) {
+	if cut != "" {
+		fmt.Fprintf(w, "gorec: the trace is cut off after %d events: %s\n", events, cut)
+	}
+}
+
+// judgeChildren has the logs of processes judged that the program started from its own file, as tests do: the program's with the
+// number of the process after its name.
+func (r *run) judgeChildren() error {
+	path := r.reader.Path() + "."
+	logs, _ := filepath.Glob(path + "[1-9]*")
+	for _, log := range logs {
+		if err := r.judgeChild(log, strings.TrimPrefix(log, path)); err != nil {
+			return fmt.Errorf("process %s, which the program started: %w", strings.TrimPrefix(log, path), err)
+		}
+	}
+	if len(logs) > 0 {
+		fmt.Fprintf(r.notes, "gorec: processes that the program started, which are judged too: %d\n", len(logs))
+	}
+	return nil
+}
+
+// judgeChild has such a log judged. What is said of it is told unless it is clean, or its races were told.
+func (r *run) judgeChild(path, process string) error {
+	if r.log == "" {
+		defer os.Remove(path)
+	}
+	var told bytes.Buffer
+	s := *r.session
+	s.name, s.out, s.notes = s.name+"."+process, &told, &told
+	if s.keepsFile() {
+		s.kept = os.DevNull // the file has the program's own trace
+	}
+	child, err := s.newRun(hooklog.Open(path))
+	if err != nil {
+		return err
+	}
+	defer child.close()
+	child.told = r.told
+	ended := make(chan struct{})
+	close(ended)
+	if err := child.follow(ended); err != nil {
+		return err
+	}
+	if child.Status != 0 && (child.Status != racing || len(child.reports) > 0) {
+		child.keep()
+		child.tellTrace()
+		fmt.Fprintf(r.out, "gorec: of process %s, which the program started:\n%s", process, told.String())
+	}
+	r.Status = worse(child.Status, r.Status)
+	r.reports = append(r.reports, child.reports...)
+	r.Races += child.Races
+	r.Predicted += child.Predicted
+	r.NotSearched += child.NotSearched
+	return nil
 }

@@ -1,9 +1,10 @@
 package main
 
 import (
+	"debug/buildinfo"
+	"errors"
 	"fmt"
 	"io"
-	"math/rand"
 	"os"
 	"os/exec"
 	"path/filepath"
@@ -15,34 +16,82 @@ import (
 	"gorace.local/recorder/internal/process"
 )
 
-// A session is a command that records a program.
+// A session does a command of gorec.
 type session struct {
-	*recording
+	options
+	words
 	keeper *process.Keeper
 	judge  *judge
+
+	goFlags []string // of builds
+	goEnv   []string // nil for gorec's own
 
 	path   string // the program's import path
 	name   string // of its files
 	file   string
-	words  []string
+	args   []string
 	dir    string // in which it runs, "" for the one that gorec is in
 	isTest bool
 	inTurn bool // its parallel tests run one after another
 
-	out, notes io.Writer // for the reports, and for what else is told
-	piped      *lines    // takes the program's output, which else goes where gorec's does
+	out, notes io.Writer  // for the reports, and for what else is told
+	piped      lineWriter // takes the program's output, which else goes where gorec's does
 }
 
-// begin finds what a session needs, before anything runs.
-func (r *recording) begin(k *process.Keeper) (*session, error) {
-	if err := r.check(); err != nil {
-		return nil, err
+func newSession(command string) *session {
+	s := &session{words: words{own: newFlagSet(command)}}
+	s.define(command, s.own)
+	return s
+}
+
+// begin finds what is needed to have runs judged, before anything runs.
+func (s *session) begin() (err error) {
+	if err := s.check(); err != nil {
+		return err
 	}
-	judge, err := findJudge(r.judge)
-	if err != nil {
-		return nil, err
+	s.out, s.notes = s.keeper.Output(os.Stdout), os.Stderr
+	s.judge, err = findJudge(s.gorace)
+	return err
+}
+
+// runPackage builds a program, records runs of it, and has them judged.
+func (s *session) runPackage() (status int, err error) {
+	if len(s.rest) == 0 {
+		return 0, errNoPackage
 	}
-	return &session{recording: r, keeper: k, judge: judge, out: k.Output(os.Stdout), notes: os.Stderr}, nil
+	if err := s.begin(); err != nil {
+		return 0, err
+	}
+	n := 1
+	for n < len(s.rest) && strings.HasSuffix(s.rest[n-1], ".go") && strings.HasSuffix(s.rest[n], ".go") {
+		n++ // a program that is named by several files
+	}
+	if s.file, err = s.buildProgram(s.rest[:n]); err != nil {
+		return 0, err
+	}
+	s.args = s.rest[n:]
+	s.isCalled(s.importPath())
+	if first := s.rest[0]; strings.HasSuffix(first, ".go") {
+		s.path = strings.TrimSuffix(filepath.Base(first), ".go")
+		if dir, err := filepath.Abs(filepath.Dir(first)); err == nil {
+			s.path = filepath.Base(dir) + "_" + s.path
+		}
+		s.name = s.path
+	}
+	return s.runProgram()
+}
+
+// importPath is that of the program. Tests of Go before 1.24 don't tell it, but run in the folder of their package.
+func (s *session) importPath() string {
+	path := filepath.Base(s.file)
+	if info, err := buildinfo.ReadFile(s.file); err == nil && info.Path != "" {
+		path = info.Path
+	} else if s.isTest {
+		if out, err := exec.Command("go", "list", "-find").Output(); err == nil {
+			path = strings.TrimSpace(string(out))
+		}
+	}
+	return strings.TrimSuffix(path, ".test")
 }
 
 // isCalled notes the program's import path. In the names of files a/b and a_b differ.
@@ -53,149 +102,157 @@ func (s *session) isCalled(path string) {
 	}
 }
 
-// scratch begins the names of a program's temporary files.
-func (s *session) scratch() string { return filepath.Join(s.keeper.Folder, s.name) }
-
-// A verdict is how a run ended.
-type verdict struct {
-	Status          int // as gorec's, of this package alone
-	Races           int
-	Predicted       int `json:",omitempty"`
-	NotSearched     int `json:",omitempty"` // variables, in other orders
-	Events, Records int
-	Cut             string `json:",omitempty"` // why the trace is cut off, and where
-	Ended           string `json:",omitempty"` // how the program failed
-	Seed            string `json:",omitempty"`
-	Trace           string `json:",omitempty"` // the file
+// exec runs a program, and answers its status, or that of the judge. gorec itself goes to the folder that places are told from.
+func (s *session) exec() (int, error) {
+	if len(s.rest) == 0 {
+		return 0, errors.New("no program was named")
+	}
+	if s.verdicts != "" {
+		go s.endWithParent()
+	}
+	err := s.begin()
+	if err == nil {
+		s.file, err = exec.LookPath(s.rest[0])
+	}
+	if err == nil {
+		s.file, err = filepath.Abs(s.file)
+	}
+	if err != nil {
+		return 0, err
+	}
+	s.args, s.isTest = s.rest[1:], strings.HasSuffix(s.file, ".test")
+	for _, word := range s.args {
+		switch name, value, _ := cutFlag(word); {
+		case name == "test.list": // none is run
+			s.keeper.End()
+			return unusable, syscall.Exec(s.file, s.rest, os.Environ())
+		case strings.HasPrefix(name, "test."):
+			s.isTest = true
+			s.inTurn = s.inTurn || name == "test.parallel" && value == "1"
+		}
+	}
+	s.isCalled(s.importPath())
+	if s.base != "" {
+		if s.dir, err = os.Getwd(); err == nil {
+			err = os.Chdir(s.base)
+		}
+	}
+	switch {
+	case err != nil:
+		return 0, err
+	case s.isTest:
+		return s.runTests()
+	}
+	return s.runProgram()
 }
 
-// A run is one of a program, or of a process that it starts. Its parts are judged while it goes on, each in one segment or several.
-type run struct {
-	*session
-	verdict
-	exit    int // the program's own status, as shells have it
-	elapsed time.Duration
-
-	trace   string    // the file that the judge reads: of the first segment with a race, or else of the last one
-	first   *report   // on that segment, nil while none has a race
-	reports []*report // on segments with races at other places than those before, predicted ones too
-	told    told      // what races at which places
-
-	segments, racing int
-	ends             map[string]int // why segments ended that others follow
-	noted            time.Time      // when a segment without another race was noted last
+// endWithParent has gorec end with go test, which has started it. What it has started itself is killed then.
+func (s *session) endWithParent() {
+	for parent := os.Getppid(); os.Getppid() == parent; {
+		time.Sleep(100 * time.Millisecond)
+	}
+	s.keeper.End()
+	os.Exit(unusable)
 }
 
-func (s *session) newRun(seed string) *run {
-	return &run{session: s, verdict: verdict{Seed: seed}, trace: s.scratch() + ".gotrace", told: told{}, ends: map[string]int{}}
+// runProgram runs a program that is no test.
+func (s *session) runProgram() (int, error) {
+	end := func(*run) {}
+	if s.json {
+		end = s.writeJSON()
+	}
+	r, err := s.repeat()
+	if err != nil {
+		return 0, err
+	}
+	end(r)
+	return r.Status, nil
 }
 
 // repeat runs a program until a race is found, as often as is wanted. It answers the last run, with the worst status.
 func (s *session) repeat() (*run, error) {
 	if s.runs > 1 && s.seed == "" {
-		s.seed = fmt.Sprint(rand.New(rand.NewSource(time.Now().UnixNano())).Uint32()>>1 | 1)
+		s.seed = fmt.Sprint(uint32(time.Now().UnixNano())>>1 | 1)
 	}
-	worst := 0
-	for i := 0; ; i++ {
-		r, err := s.once(s.seedOf(i))
+	if s.keepsFile() { // it is made before the run, which may be long
+		if err := os.WriteFile(s.kept, nil, 0o666); err != nil {
+			return nil, err
+		}
+	}
+	seed, _ := strconv.ParseUint(s.seed, 10, 32) // which was checked
+	for worst, i := 0, 1; ; i++ {
+		r, err := s.once(uint32(seed))
 		if err != nil {
 			return nil, err
 		}
 		worst = worse(r.Status, worst)
 		if s.runs > 1 {
-			fmt.Fprintf(s.notes, "gorec: run %d of at most %d, with seed %s\n", i+1, s.runs, r.Seed)
+			fmt.Fprintf(s.notes, "gorec: run %d of at most %d, with seed %s\n", i, s.runs, r.Seed)
 		}
-		if r.Status == racing || i+1 == s.runs || s.keeper.Interrupted() {
+		if r.Status == racing || i == s.runs || s.keeper.Interrupted() {
 			r.Status = worst
 			return r, nil
 		}
+		if seed != 0 {
+			seed++
+		}
 	}
-}
-
-// seedOf is that of one of several runs.
-func (s *session) seedOf(i int) string {
-	first, err := strconv.ParseUint(s.seed, 10, 32)
-	if err != nil || first == 0 || s.runs == 1 {
-		return s.seed
-	}
-	return fmt.Sprint(uint32(first) + uint32(i))
 }
 
 // once runs a program, and has its trace judged.
-func (s *session) once(seed string) (*run, error) {
-	log, err := s.newLog(seed)
+func (s *session) once(seed uint32) (*run, error) {
+	r, err := s.newRun(s.createLog())
 	if err != nil {
 		return nil, err
 	}
-	defer log.drop()
-	keptAs, err := s.keptAs()
-	if err != nil {
-		return nil, err
+	defer r.close()
+	if r.reader.SetSeed(seed); s.seed != "" {
+		r.Seed = fmt.Sprint(seed)
 	}
-	r := s.newRun(seed)
 	ended := make(chan struct{})
 	var failed error
 	go func() {
 		defer close(ended)
-		failed = r.record(log)
+		failed = r.record()
 	}()
-	if err = log.follow(r, ended); failed != nil {
+	if err = r.follow(ended); failed != nil {
 		err = failed
 	}
-	if err != nil && r.Status != racing {
-		if r.segments > 0 && keptAs == s.kept {
-			r.keep(keptAs)
+	switch {
+	case err == nil:
+	case r.Status == racing: // in a segment before
+		fmt.Fprintf(s.notes, "gorec: %v\n", err)
+	default:
+		if r.segments > 0 && s.keepsFile() {
+			r.keep()
 		}
 		return nil, err
 	}
-	if err != nil {
-		fmt.Fprintf(s.notes, "gorec: %v\n", err) // behind a segment with races
-	}
-	r.settle()
-	r.keep(keptAs)
+	r.keep()
 	r.tellTrace()
 	return r, nil
 }
 
-// settle finds the status of a run without races: it is 0 only if the trace is whole and the program didn't fail.
-func (r *run) settle() {
-	switch {
-	case r.Status != 0:
-	case r.exit != 0:
-		r.Status = failed
-	case r.Cut != "":
-		r.Status = cutOff
-	}
-}
-
 // record runs the program; its trace is judged however it ends.
-func (r *run) record(log *hookLog) error {
-	cmd := exec.Command(r.file, r.words...)
-	cmd.Env = append(os.Environ(), "GOREC_LOG="+log.path)
-	if r.dir != "" {
-		cmd.Dir = r.dir
-		cmd.Env = append(cmd.Env, "PWD="+r.dir)
-	}
-	cmd.Stdin, cmd.Stdout, cmd.Stderr = os.Stdin, os.Stdout, os.Stderr
-	finish := func() {}
-	if r.piped != nil {
-		w, wait, err := pipeTo(r.piped)
-		if err != nil {
-			return err
-		}
-		cmd.Stdout, cmd.Stderr, finish = w, w, wait
-	}
+func (r *run) record() error {
+	cmd := exec.Command(r.file, r.args...)
+	cmd.Dir = r.dir
+	cmd.Env = append(cmd.Environ(), "GOREC_LOG="+r.reader.Path())
+	cmd.Stdin = os.Stdin
+	run := func() error { return r.keeper.Run(cmd, process.Program) }
 	began := time.Now()
-	err := r.keeper.Run(cmd, process.Program)
+	var err error
+	if r.piped != nil {
+		err = piped(cmd, r.piped, run)
+	} else {
+		cmd.Stdout, cmd.Stderr = os.Stdout, os.Stderr
+		err = run()
+	}
 	r.elapsed = time.Since(began)
-	finish()
 	if r.keeper.Interrupted() {
 		fmt.Fprintln(r.notes, "gorec: what was recorded is judged; one more signal ends gorec at once")
 	}
-	switch {
-	case err == nil:
-		return nil
-	case cmd.ProcessState == nil:
+	if err == nil || cmd.ProcessState == nil {
 		return err
 	}
 	r.Ended, r.exit = err.Error(), cmd.ProcessState.ExitCode()

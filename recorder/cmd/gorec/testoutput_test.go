@@ -1,19 +1,21 @@
 package main
 
 import (
+	"io"
 	"strings"
 	"testing"
+	"testing/iotest"
 
-	"gorace.local/recorder/internal/trace"
+	"gorace.local/recorder/internal/report"
 )
 
 // racesIn are reports on a race in one or two tests.
-func racesIn(tests ...string) []*report {
-	r := readReport("race on x: write by g1 at a.go:1 (event 1), read by g2 at a.go:2 (event 2)\n")
-	r.summary = &trace.Summary{}
-	moments := map[int]trace.Moment{1: {Goroutine: 1}, 2: {Goroutine: uint32(len(tests))}}
-	r.learn(moments, append([]string{""}, tests...), noStacks)
-	return []*report{r}
+func racesIn(tests ...string) []*report.Report {
+	r := report.Race{Variable: "x"}
+	for i := range r.Accesses {
+		r.Accesses[i] = report.Access{Kind: []string{"write", "read"}[i], Place: []string{"a.go:1", "a.go:2"}[i], Test: tests[i%len(tests)]}
+	}
+	return []*report.Report{{All: []report.Race{r}}}
 }
 
 // TestOutputOfTests: what tests write is passed on at once, but that all passed; of tests with races it is told that they failed.
@@ -22,13 +24,13 @@ func TestOutputOfTests(t *testing.T) {
 	for _, c := range []struct {
 		words, output string
 		status        int
-		reports       []*report
+		reports       []*report.Report
 		first, last   string
 	}{
 		{"", "a\nPASS\ncoverage: 1%\n", 0, nil, "a\n", "PASS\ncoverage: 1%\n"},
 		{"", "PASS\n", cutOff, nil, "", "PASS\n"},
 		{"", "PASS\n", unusable, nil, "", "FAIL\n"},
-		{"", "PASSED\nPAS", 0, nil, "PASSED\n", "PAS\n"},
+		{"", "PASSED\nPAS", 0, nil, "PASSED\nPAS\n", ""},
 		{"", "x PASS\nPASS\n" + strings.Repeat("more\n", 1000), 0, nil, "x PASS\nPASS\n" + strings.Repeat("more\n", 1000), ""},
 		{"", "PASS\n", racing, racesIn("TestA"), "", "--- FAIL: TestA (0.00s)\n" + told + "FAIL\n"},
 		{"", "PASS\n", racing, racesIn("TestA", "TestB/c"), "", "--- FAIL: TestA (0.00s)\n" + told +
@@ -38,26 +40,16 @@ func TestOutputOfTests(t *testing.T) {
 		{"-test.v=test2json", "\x16PASS\n", racing, racesIn("TestA"), "", "\x16=== RUN   TestA\n" + told + "\x16--- FAIL: TestA (0.00s)\n\x16FAIL\n"},
 		{"", "--- FAIL: TestA (0.00s)\nFAIL\n", racing, racesIn("TestA"), "--- FAIL: TestA (0.00s)\nFAIL\n", ""},
 	} {
-		for _, step := range []int{len(c.output), 3, 1} {
+		for _, output := range []io.Reader{strings.NewReader(c.output), iotest.OneByteReader(strings.NewReader(c.output))} {
 			var b strings.Builder
 			out := newTestOutput(&b, strings.Fields(c.words))
-			in := &lines{to: out.line}
-			for i := 0; i < len(c.output); i += step {
-				end := i + step
-				if end > len(c.output) {
-					end = len(c.output)
-				}
-				if n, err := in.Write([]byte(c.output[i:end])); n != end-i || err != nil {
-					t.Fatal(n, err)
-				}
-			}
+			lineWriter(out.line).readFrom(output)
 			if b.String() != c.first {
-				t.Errorf("%q by %d: before the verdict %q", c.output, step, b.String())
+				t.Errorf("%q: before the verdict %q", c.output, b.String())
 			}
-			in.end()
-			out.end(c.status, c.reports)
+			out.end(&run{verdict: verdict{Status: c.status}, reports: c.reports})
 			if b.String() != c.first+c.last {
-				t.Errorf("%q by %d: got %q", c.output, step, b.String())
+				t.Errorf("%q: got %q", c.output, b.String())
 			}
 		}
 	}

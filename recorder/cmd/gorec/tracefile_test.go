@@ -29,13 +29,9 @@ func TestKept(t *testing.T) {
 		{file, true, 0, file},
 		{os.DevNull, false, racing, ""},
 	} {
-		s := &session{recording: &recording{kept: c.named}, name: "example.com_shop", isTest: c.isTest}
-		as, err := s.keptAs()
-		if err != nil {
-			t.Fatal(err)
-		}
+		s := &session{options: options{kept: c.named}, name: "example.com_shop", isTest: c.isTest}
 		r := &run{session: s, trace: trace, verdict: verdict{Status: c.status}}
-		r.keep(as)
+		r.keep()
 		text, err := os.ReadFile(c.want)
 		if r.Trace != c.want || c.want != "" && (err != nil || string(text) != "gotrace 1\n") {
 			t.Errorf("%+v: kept in %q, %v", c, r.Trace, err)

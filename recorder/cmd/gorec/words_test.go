@@ -10,19 +10,22 @@ import (
 )
 
 // parsed is what becomes of the words of a command: gorec's own flags, those of go, and the rest, or why they are refused.
-func parsed(c *command, line string) string {
-	w := &words{own: newFlagSet(c.name)}
-	c.prepare(w.own)
-	if err := w.parse(c, strings.Fields(line)); err != nil {
-		return "refused: " + err.Error()
+func parsed(name, line string) string {
+	s := newSession(name)
+	for _, c := range commands {
+		if c.name == name {
+			if err := s.parse(c, strings.Fields(line)); err != nil {
+				return "refused: " + err.Error()
+			}
+		}
 	}
 	var own []string
-	w.own.Visit(func(f *flag.Flag) {
+	s.own.Visit(func(f *flag.Flag) {
 		if _, isGo := f.Value.(*goFlag); !isGo {
 			own = append(own, f.Name+"="+f.Value.String())
 		}
 	})
-	return strings.Join([]string{strings.Join(own, " "), strings.Join(w.flags, " "), strings.Join(w.rest, " ")}, " | ")
+	return strings.Join([]string{strings.Join(own, " "), strings.Join(s.flags, " "), strings.Join(s.rest, " ")}, " | ")
 }
 
 // TestWordsOfRun: gorec's own flags, those of go build, and the program with its words are told apart.
@@ -43,7 +46,7 @@ func TestWordsOfRun(t *testing.T) {
 		{"-tags", "refused: flag needs an argument: -tags"},
 		{"-h", "refused: " + flag.ErrHelp.Error()},
 	} {
-		if got := parsed(&runCommand, c.words); got != c.want {
+		if got := parsed("run", c.words); got != c.want {
 			t.Errorf("%s: got %s", c.words, got)
 		}
 	}
@@ -59,7 +62,7 @@ func TestWordsOfTest(t *testing.T) {
 		{"-seed 5 -predict . -seed 7", "predict=true seed=5 |  | . -seed 7"},
 		{"-json -count=1 -p 2 -parallel 4 -timeout 5m -short ./...", " | -json=true -count=1 -p=2 -parallel=4 -timeout=5m -short=true | ./..."},
 		{". -own 3 -tags a -short word -v=true", " | -tags=a -short=true | . -own 3 word -v=true"},
-		{". -own=3 word -tags a", " |  | . -own=3 word -tags a"}, // behind a word all is for the tests
+		{". -own=3 word -tags a", " |  | . -own=3 word -tags a"}, // after a word all is for the tests
 		{". -v -args -run x -race -tags a", " | -v=true | . -args -run x -race -tags a"},
 		{"-own x -seed 5", " |  | -own x -seed 5"}, // nothing tells where the packages would stand
 		{"-bench . -benchtime 1x -test.run None -vet=off -fuzz=F -ldflags=-s .",
@@ -71,7 +74,7 @@ func TestWordsOfTest(t *testing.T) {
 		{". -run", "refused: flag needs an argument: -run"},
 		{"-runs x .", `refused: invalid value "x" for flag -runs: parse error`},
 	} {
-		if got := parsed(&testCommand, c.words); got != c.want {
+		if got := parsed("test", c.words); got != c.want {
 			t.Errorf("%s: got %s", c.words, got)
 		}
 	}
@@ -95,7 +98,7 @@ func TestFlagsOfBuilds(t *testing.T) {
 		{"", "-covermode=set -coverprofile=c", always + debug + " -covermode=set -coverprofile=c"},
 		{"-exec=env", "", "refused: GOFLAGS: -exec: the programs are run by gorec exec"},
 	} {
-		flags, err := flagsWith(&patch.Set{}, "/", c.goflags, strings.Fields(c.flags))
+		flags, err := flagsWith(&patch.Set{}, c.goflags, strings.Fields(c.flags))
 		got := strings.Join(flags, " ")
 		if err != nil {
 			got = "refused: " + err.Error()
@@ -106,22 +109,21 @@ func TestFlagsOfBuilds(t *testing.T) {
 	}
 }
 
-// TestQuoted: a word is read back as it was.
+// TestQuoted: words are read back as they were.
 func TestQuoted(t *testing.T) {
 	words := []string{"a", "", "a b", `it's`, `say "x"`, "-o=/tmp/a b"}
-	var all []string
-	for _, word := range words {
-		q, err := quoted(word)
-		if err != nil {
-			t.Fatal(err)
-		}
-		all = append(all, q)
+	all, err := quoted(words)
+	if err != nil {
+		t.Fatal(err)
 	}
-	back, err := wordsOf(strings.Join(all, " "))
-	if err != nil || fmt.Sprintf("%q", back) != fmt.Sprintf("%q", words) {
-		t.Errorf("%q, %v", back, err)
+	var back []string
+	for _, m := range goWord.FindAllStringSubmatch(all, -1) {
+		back = append(back, m[1]+m[2]+m[3])
 	}
-	if _, err := quoted(`'"`); err == nil {
+	if fmt.Sprintf("%q", back) != fmt.Sprintf("%q", words) {
+		t.Errorf("%q", back)
+	}
+	if _, err := quoted([]string{`'"`}); err == nil {
 		t.Error("a word with both quotes was quoted")
 	}
 }

@@ -18,6 +18,7 @@ type Sink interface {
 // Reader reads a log, also while it is written. Only one goroutine may use it at a time.
 type Reader struct {
 	file  *os.File
+	path  string
 	log   *Log
 	stack []uint64
 
@@ -59,7 +60,7 @@ func openFile(f *os.File, path string) (*Reader, error) {
 		f.Close()
 		return nil, fmt.Errorf("%s: %w", path, err)
 	}
-	return &Reader{file: f, log: log, whole: true, reuses: log.Header.Reader != 0 && log.writable}, nil
+	return &Reader{file: f, path: path, log: log, whole: true, reuses: log.Header.Reader != 0 && log.writable}, nil
 }
 
 // Close gives back the memory.
@@ -67,6 +68,9 @@ func (r *Reader) Close() error {
 	r.log.Unmap()
 	return r.file.Close()
 }
+
+// Path is that of the log, or of the link to it.
+func (r *Reader) Path() string { return r.path }
 
 // Header is the log's first page.
 func (r *Reader) Header() *Header { return r.log.Header }

@@ -54,7 +54,7 @@ func TestGoFlags(t *testing.T) {
 		status int
 		told   []string
 	}{
-		{"-cpu 1,2 -v -run Own ./bank", 0, []string{"own 0\n--- PASS: TestOwn (0.00s)\n=== RUN   TestOwn\n"}},
+		{"-cpu 1,2 -v -run Own ./bank", 0, []string{"own 0\n--- PASS: TestOwn (", "s)\n=== RUN   TestOwn\n"}},
 		{"-shuffle 5 -v ./bank", 0, []string{"-test.shuffle 5\n"}},
 		{"-covermode count -count 2 ./bank", 0, []string{"coverage: 100.0% of statements\n"}},
 		{"-failfast -json -run Wrong ./wrong", 21, []string{`"Action":"fail","Package":"example.com/service/wrong","Test":"TestWrong"`}},

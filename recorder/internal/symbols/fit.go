@@ -65,6 +65,10 @@ func (m *memory) fit(u use) Name {
 		n.rank = m.fitContent(u.home)
 	case m.isMap || m.isField() || u.kind == mapPiece || u.kind == noPiece:
 		return Name{}
+	case u.kind == lostPiece && m.typ != nil && (len(m.steps) > 0 || u.word != u.root):
+		return Name{}
+	case u.kind == lostPiece:
+		n.rank = guess / 2
 	case m.typ != nil && u.home != nil:
 		n.Word, n.rank = m.fitTypes(u)
 	case m.several && u.kind == elementPiece:

@@ -20,8 +20,9 @@ type place struct {
 type pieceKind uint8
 
 const (
-	noPiece  pieceKind = iota // or a variable that doesn't lie in the heap: its address would tell
-	ownPiece                  // a variable that does
+	noPiece   pieceKind = iota // or a variable that doesn't lie in the heap: its address would tell
+	ownPiece                   // a variable that does
+	lostPiece                  // one that the compiler has left out of the debugging information
 	pointeePiece
 	elementPiece
 	mapPiece
@@ -114,6 +115,8 @@ func (l *locator) ident(e *ast.Ident) *place {
 		x.typ = v.typ
 	case e.Obj == nil:
 		return nil
+	default:
+		x.kind = lostPiece
 	}
 	x.home = x.typ
 	return x
@@ -140,6 +143,8 @@ func (l *locator) selector(e *ast.SelectorExpr) *place {
 	y := &place{word: x.word + "_" + name}
 	if s := x.typ.pointedAt().short(); s != "" {
 		y.word = s + "_" + name
+	} else if x.kind == lostPiece {
+		y.kind, y.root = x.kind, x.root
 	}
 	for _, f := range x.typ.pointedAt().member(name, 5) {
 		if x.typ.Kind == reflect.Ptr {

@@ -32,9 +32,7 @@ func (r *run) judgeSegment(s *translate.Segment) error {
 	}
 	isNew := r.isNew(o)
 	if isNew {
-		if err := o.Learn(s.Trace.Moments, s.Labels, r.stack); err != nil {
-			return err
-		}
+		o.Learn(s.Trace.Moments, s.Labels, r.stack)
 		r.reports = append(r.reports, o)
 	}
 	r.tellSegment(o, s.Last && r.segments == 1, isNew)

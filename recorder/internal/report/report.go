@@ -107,13 +107,13 @@ func raceOf(m []string) Race {
 // Learn adds what is known of the accesses: of each its moment, and by the numbers of goroutines their labels, which are the tests
 // that they belong to.
 func (r *Report) Learn(
-	moments func(events map[int]bool) (map[int]trace.Moment, error), labels []string, stack func(number uint32) []translate.Call,
-) error {
+	moments func(events map[int]bool) map[int]trace.Moment, labels []string, stack func(number uint32) []translate.Call,
+) {
 	events := map[int]bool{}
 	for _, of := range r.All {
 		events[of.Accesses[0].Event], events[of.Accesses[1].Event] = true, true
 	}
-	known, err := moments(events)
+	known := moments(events)
 	for i := range r.All {
 		for j := range r.All[i].Accesses {
 			a := &r.All[i].Accesses[j]
@@ -131,7 +131,6 @@ func (r *Report) Learn(
 			}
 		}
 	}
-	return err
 }
 
 // Key is by what it is known that a race was told: where it is, whichever access came first, and whether it was predicted.

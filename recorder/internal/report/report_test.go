@@ -55,12 +55,12 @@ predicted: 2
 }
 
 // known answers moments, where so many are asked for.
-func known(t *testing.T, events int, moments map[int]trace.Moment) func(map[int]bool) (map[int]trace.Moment, error) {
-	return func(wanted map[int]bool) (map[int]trace.Moment, error) {
+func known(t *testing.T, events int, moments map[int]trace.Moment) func(map[int]bool) map[int]trace.Moment {
+	return func(wanted map[int]bool) map[int]trace.Moment {
 		if len(wanted) != events {
 			t.Errorf("asked for the moments of %v", wanted)
 		}
-		return moments, nil
+		return moments
 	}
 }
 

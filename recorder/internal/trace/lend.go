@@ -44,85 +44,62 @@ type lender struct {
 	pairs  map[uint32]*pairing
 }
 
-// lend numbers the goroutines that are alive, and answers how far the numbers last.
-func (t *Trace) lend() (end int) {
+const tooManyGoroutines = "more than 1,024 goroutines at once, or that nothing joins"
+
+// isLending reports whether there are more goroutines than names.
+func (t *Trace) isLending() bool { return t.living > t.Goroutines }
+
+// lend numbers the goroutines that are alive, where there are too many of them. Those for which no number is left have none, and
+// the trace ends where the first of these does something.
+func (t *Trace) lend() {
 	if !t.isLending() {
-		return t.to
+		return
 	}
 	l := &lender{Trace: t, counts: []uint32{0}, pairs: map[uint32]*pairing{}}
-	for i := range t.Records[:t.to] {
+	for i := 0; i < t.end; i++ {
 		r := &t.Records[i]
+		g := &t.goroutines[r.Goroutine]
 		switch {
-		case r.Op == Go:
-			if t.goroutines[r.Other].alive && !l.start(r) {
-				return i
-			}
 		case r.Op == Exit:
-			if g := &t.goroutines[r.Goroutine]; g.alive && r.Goroutine != 0 && t.ends(i) {
+			if g.alive && r.Goroutine != 0 && g.last == i {
 				l.free = append(l.free, g.number)
 				g.clock = nil
 			}
-		case t.keepsRecord(i):
+		case t.events[i] == 0:
+		case r.Op == Go:
+			if t.events[i] = l.start(r); t.events[i] == 0 && t.All {
+				t.cutAt(i, tooManyGoroutines)
+			}
+		case !g.alive || r.Op == Meet && !t.goroutines[r.Other].alive:
+			t.cutAt(i, tooManyGoroutines)
+		default:
 			l.follow(r)
 		}
 	}
-	return t.to
 }
 
-// isLending reports whether there are more goroutines than names.
-func (t *Trace) isLending() bool { return t.living > t.goroutineLimit() }
-
-// crowd is the first record of a goroutine that has no name any more, if each of those that do something has one, and each
-// that started one of these. Who was started and did nothing up to there has none.
-func (t *Trace) crowd() int {
-	starter, named := make([]uint32, len(t.goroutines)), make([]bool, len(t.goroutines))
-	named[0] = true
-	names := 1
-	for i := range t.Records[:t.to] {
-		r := &t.Records[i]
-		if r.Op == Go {
-			starter[r.Other] = r.Goroutine
-		}
-		if !t.keepsRecord(i) {
-			continue
-		}
-		who := [...]uint32{r.Goroutine, r.Goroutine}
-		if r.Op == Meet {
-			who[1] = r.Other
-		}
-		for _, g := range who {
-			for ; !named[g]; g = starter[g] {
-				named[g] = true
-				names++
-			}
-		}
-		if names > t.goroutineLimit() {
-			return i
-		}
+// start numbers a goroutine, and answers how many events its go becomes.
+func (l *lender) start(r *Record) (events uint8) {
+	child := &l.goroutines[r.Other]
+	if !l.goroutines[r.Goroutine].alive {
+		child.alive = false
+		return 0
 	}
-	return t.to
-}
-
-// start numbers a goroutine; false is that no number is left.
-func (l *lender) start(r *Record) bool {
-	c, child := l.tick(r.Goroutine), &l.goroutines[r.Other]
-	number := -1
+	c := l.tick(r.Goroutine)
 	for j, n := range l.free {
 		if n < len(c) && c[n] >= l.counts[n] {
-			number, child.lent = n, true
 			l.free = append(l.free[:j], l.free[j+1:]...)
-			break
+			child.number, child.lent, child.clock = n, true, c.copy()
+			return 2
 		}
 	}
-	if number < 0 {
-		if len(l.counts) == l.goroutineLimit() {
-			return false
-		}
-		number = len(l.counts)
-		l.counts = append(l.counts, 0)
+	if len(l.counts) == l.Goroutines {
+		child.alive = false
+		return 0
 	}
-	child.number, child.clock = number, c.copy()
-	return true
+	child.number, child.clock = len(l.counts), c.copy()
+	l.counts = append(l.counts, 0)
+	return 1
 }
 
 // tick counts an event of a goroutine.

@@ -1,10 +1,6 @@
 package trace
 
-import (
-	"io"
-	"sort"
-	"strings"
-)
+import "strings"
 
 // A Deed is something that a goroutine did which may order it after others, or others after it.
 type Deed struct {
@@ -14,8 +10,8 @@ type Deed struct {
 
 func (d Deed) String() string { return d.What + " at " + d.Place }
 
-// A Moment is what a goroutine held in front of an event, and its last deed, also where the
-// trace leaves these out, since one goroutine alone used the lock.
+// A Moment is what a goroutine held before an event, and its last deed, also where the trace leaves these out, since one
+// goroutine alone used the lock.
 type Moment struct {
 	Locks []Deed // the oldest first
 	Last  Deed
@@ -23,10 +19,10 @@ type Moment struct {
 
 	Goroutine uint32 // of an access: its number in the records
 
-	Change bool // the event is the read of a change, whose write stands behind it
+	Change bool // the event is the read of a change, whose write comes after it
 }
 
-// String tells a moment behind the name of an access.
+// String tells a moment after the name of an access.
 func (m Moment) String() string {
 	var held []string
 	for _, l := range m.Locks {
@@ -64,35 +60,35 @@ type holding struct {
 // follower follows what goroutines hold and do.
 type follower struct {
 	*Trace
-	held    map[uint32][]holding // by goroutine
-	last    map[uint32]Deed
-	wanted  map[int]bool
-	moments map[int]Moment
-	taken   names             // those of the trace, and of what it leaves out
-	left    map[uint32]string // what is left out, by object
+	held  [][]holding // by goroutine
+	last  []Deed
+	left  map[uint32]string // the names of what is left out, by object
+	taken names             // those of the trace, and of what it leaves out
 }
 
 // Moments are those of the wanted events, which are counted from 1.
-func (t *Trace) Moments(wanted map[int]bool) (map[int]Moment, error) {
-	f := &follower{
-		Trace: t, held: map[uint32][]holding{}, last: map[uint32]Deed{}, wanted: wanted, moments: map[int]Moment{}, left: map[uint32]string{},
+func (t *Trace) Moments(wanted map[int]bool) map[int]Moment {
+	n := len(t.goroutines)
+	f := &follower{Trace: t, held: make([][]holding, n), last: make([]Deed, n), left: map[uint32]string{}, taken: names{}}
+	for i := range t.objects {
+		f.taken[t.objects[i].name] = 1
 	}
-	told := 0
-	_, err := t.writeEach(io.Discard, func(i, events int) {
+	moments, event := map[int]Moment{}, 0
+	for i := range t.Records[:t.end] {
 		r := &t.Records[i]
-		for told < events {
-			if told++; wanted[told] {
-				f.moments[told] = f.moment(r, told < events)
+		for n := t.events[i]; n > 0; n-- {
+			if event++; wanted[event] {
+				moments[event] = f.moment(r, n > 1 && t.isChange(r))
 			}
 		}
 		f.follow(r)
-	})
-	return f.moments, err
+	}
+	return moments
 }
 
-func (f *follower) moment(r *Record, goesOn bool) Moment {
-	m := Moment{Last: f.last[r.Goroutine], Change: goesOn && f.isChange(r)}
-	if r.Op.isAccess() {
+func (f *follower) moment(r *Record, change bool) Moment {
+	m := Moment{Last: f.last[r.Goroutine], Change: change}
+	if r.Op == Read || r.Op == Write {
 		m.Stack, m.Goroutine = r.OtherSite, r.Goroutine
 	}
 	for _, h := range f.held[r.Goroutine] {
@@ -101,32 +97,18 @@ func (f *follower) moment(r *Record, goesOn bool) Moment {
 	return m
 }
 
-// name is that of an object, also of one that is left out.
+// name is that of an object. Two that the trace leaves out have two names.
 func (f *follower) name(id uint32) string {
-	o, is := &f.objects[id], f.Objects[id]
-	site := f.Sites[is.Site].Name
+	name, is := f.objects[id].name, f.Objects[id]
 	switch {
 	case is.Kind == Order:
-		return site
-	case o.name != "":
-		return o.name
+		return f.Sites[is.Site].Name
+	case name != "":
+		return name
 	case f.left[id] == "":
-		f.left[id] = f.free().take(site)
+		f.left[id] = f.taken.take(f.Sites[is.Site].Name)
 	}
 	return f.left[id]
-}
-
-// free are the names that the trace doesn't take. Two objects that it leaves out have two names.
-func (f *follower) free() names {
-	if f.taken == nil {
-		f.taken = names{}
-		for i := range f.objects {
-			if name := f.objects[i].name; name != "" {
-				f.taken[name] = taken
-			}
-		}
-	}
-	return f.taken
 }
 
 // follow takes in a record.
@@ -135,12 +117,12 @@ func (f *follower) follow(r *Record) {
 	switch r.Op {
 	case Go:
 		if r.Site != 0 && GoKind(r.Kind) != GoEarlier { // else nobody knows who started it, or it wasn't now
-			f.last[g] = Deed{What: "go of " + f.nameOf(r.Other), Place: place}
+			f.last[g] = Deed{What: "go of " + f.goroutines[r.Other].name, Place: place}
 		}
 		f.last[r.Other] = Deed{What: "its start", Place: place}
 		return
 	case Exit:
-		delete(f.held, g)
+		f.held[g] = nil
 		return
 	case Meet:
 		f.last[g] = Deed{What: "send on " + f.name(r.Object), Place: place}
@@ -169,21 +151,10 @@ func (f *follower) follow(r *Record) {
 	}
 }
 
-// release ends a holding: the goroutine's own, or one of another, whose lock it may unlock; of
-// several the first one's.
+// release ends a holding: the goroutine's own, or the first one of another, whose lock it may unlock.
 func (f *follower) release(g, lock uint32, reading bool) {
-	if f.drop(g, lock, reading) {
-		return
-	}
-	var others []uint32
-	for other := range f.held {
-		others = append(others, other)
-	}
-	sort.Slice(others, func(i, j int) bool { return others[i] < others[j] })
-	for _, other := range others {
-		if f.drop(other, lock, reading) {
-			return
-		}
+	for other := 0; !f.drop(g, lock, reading) && other < len(f.held); other++ {
+		g = uint32(other)
 	}
 }
 

@@ -56,10 +56,7 @@ func TestMoments(t *testing.T) {
 			accesses = append(accesses, event)
 		}
 	}
-	moments, err := trace.Moments(events)
-	if err != nil {
-		t.Fatal(err)
-	}
+	moments := trace.Moments(events)
 	for i, want := range []string{
 		"without a lock, after its start at .go:1",
 		"after rlock of mu at mu.go:1",
@@ -99,10 +96,7 @@ func TestMomentsNameLocksApart(t *testing.T) {
 	if _, err := trace.Write(&b); err != nil {
 		t.Fatal(err)
 	}
-	moments, err := trace.Moments(map[int]bool{3: true, 4: true})
-	if err != nil {
-		t.Fatal(err)
-	}
+	moments := trace.Moments(map[int]bool{3: true, 4: true})
 	for event, name := range map[int]string{3: "mu", 4: "mu_2"} {
 		m := moments[event]
 		if got, want := m.String(), "after lock of "+name+" at a.go:2"; got != want {
@@ -131,10 +125,7 @@ func TestMomentsOfAnUnlockByAnother(t *testing.T) {
 	objects := []Object{{}, {Kind: Variable, Site: x}, {Kind: RWMutex, Site: mu}}
 	trace := New(&Recording{Records: records, Objects: objects, Sites: table}, Options{Version: 1})
 	for round := 0; round < 20; round++ {
-		moments, err := trace.Moments(map[int]bool{6: true, 7: true})
-		if err != nil {
-			t.Fatal(err)
-		}
+		moments := trace.Moments(map[int]bool{6: true, 7: true})
 		if a, b := moments[6].String(), moments[7].String(); a != "without a lock, after rlock of mu at a.go:2" || b != "after rlock of mu at a.go:2" {
 			t.Fatalf("round %d: %s; %s", round, a, b)
 		}

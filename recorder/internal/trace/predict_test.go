@@ -38,10 +38,7 @@ func TestChangesAreReads(t *testing.T) {
 		if !strings.HasSuffix(b.String(), "go main g1 a.go:1\n"+want) {
 			t.Errorf("%+v: got\n%s", c, b.String())
 		}
-		moments, err := trace.Moments(map[int]bool{2: true, 3: true, 4: true})
-		if err != nil {
-			t.Fatal(err)
-		}
+		moments := trace.Moments(map[int]bool{2: true, 3: true, 4: true})
 		if isRead := c.more != ""; moments[2].Change != isRead || moments[3].Change || moments[4].Change != isRead {
 			t.Errorf("%+v: moments %+v", c, moments)
 		}
@@ -59,25 +56,6 @@ func TestAChangeAtTheLimit(t *testing.T) {
 		o := Options{Version: 2, Predict: true, Events: limit}
 		if _, s := writtenAs(t, o, of(records, Object{Kind: Map, Site: 1})); s.Events != want {
 			t.Errorf("limit %d: %d events", limit, s.Events)
-		}
-	}
-}
-
-// TestOrdersOfPredictions: where other orders are looked for no lock stands for an order, since an
-// rlock may stand before the lock there.
-func TestOrdersOfPredictions(t *testing.T) {
-	const n = 2*maxKind + 1
-	records, orders := []Record{{Op: Go, Other: 1, Site: 1}}, make([]Object, n)
-	for id := uint32(1); id <= n; id++ {
-		orders[id-1] = Object{Kind: Order, Site: 1}
-		records = append(records,
-			Record{Op: Release, Object: id, Site: 1},
-			Record{Op: Acquire, Object: id, Goroutine: 1, Site: 2})
-	}
-	for _, predict := range []bool{false, true} {
-		text, s := writtenAs(t, Options{Version: 2, Predict: predict, All: true}, of(records, orders...))
-		if hasLock := strings.Contains(text, "\nrwmutex "); hasLock == predict || (s.Cut == "") == predict {
-			t.Errorf("predict %v: a lock %v, cut off: %q", predict, hasLock, s.Cut)
 		}
 	}
 }

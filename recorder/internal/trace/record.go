@@ -6,13 +6,15 @@ type Recording struct {
 	Objects   []Object // by their numbers, of which 0 is none
 	Sites     []Site   // by their numbers, of which 0 is none
 	Variables int      // so many were met, if more than there are among the objects
+	More      int      // records that come after all accesses, and are left out
 }
 
-// An Object is what records are about.
+// An Object is what records are about. A variable is one that may be in a race.
 type Object struct {
 	Kind     ObjectKind
 	Site     uint32 // with its name
 	Capacity uint32 // of a channel
+	By       uint32 // of an Atomic: the goroutine
 }
 
 // ObjectKind says what an object is.
@@ -23,6 +25,7 @@ const (
 	Variable ObjectKind = iota
 	Map                 // a variable: what a map holds
 	Content             // a variable of several words
+	Atomic              // a variable: one goroutine's atomic operations on another one, and the plain accesses of others to that
 	Channel
 	Mutex
 	RWMutex
@@ -31,7 +34,7 @@ const (
 )
 
 // IsVariable reports whether it is read and written.
-func (k ObjectKind) IsVariable() bool { return k <= Content }
+func (k ObjectKind) IsVariable() bool { return k <= Atomic }
 
 // A Site is a place of the source, and the name of what is used there.
 type Site struct{ Place, Name string }
@@ -52,7 +55,7 @@ type Record struct {
 // IsSend is the Kind of a Case that would have sent.
 const IsSend = 1
 
-// IsAmong is the Kind of a lock and an unlock where the same goroutine holds the lock before and again behind it, with no other one
+// IsAmong is the Kind of a lock and an unlock where the same goroutine holds the lock before and again after it, with no other one
 // between: they order nothing.
 const IsAmong = 1
 
@@ -76,8 +79,6 @@ const (
 	Exit
 	Read
 	Write
-	AtomicRead
-	AtomicWrite
 	Send
 	Receive
 	Meet
@@ -99,20 +100,15 @@ const (
 	Acquire
 )
 
-// isAccess reports whether an operation is a read or a write.
-func (op Op) isAccess() bool { return op >= Read && op <= AtomicWrite }
-
-// words are those of events that have a record each.
+// words are those of events. An order is a channel without a buffer, which is closed.
 var words = [...]string{
-	Read: "read", Write: "write", AtomicRead: "read", AtomicWrite: "write",
+	Read: "read", Write: "write",
 	Send: "send", Receive: "recv", Meet: "meet", ReceiveClosed: "recvclosed", Close: "close",
 	Lock: "lock", Unlock: "unlock", ReadLock: "rlock", ReadUnlock: "runlock",
 	TryLock: "trylock", TryReadLock: "tryrlock", TryFail: "tryfail",
 	OnceBegin: "oncebegin", OnceEnd: "onceend", OnceDone: "oncedone",
+	Release: "close", Acquire: "recvclosed",
 }
-
-// withoutTries are the words of version 1, where a TryLock that succeeded is a Lock.
-var withoutTries = map[Op]string{TryLock: "lock", TryReadLock: "rlock"}
 
 // deeds say what an operation is of a goroutine's, in front of the name of the object.
 var deeds = [...]string{

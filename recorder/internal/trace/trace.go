@@ -33,56 +33,44 @@ type Options struct {
 // hasTries reports whether the version has words for TryLock and TryRLock, with and without success.
 func (o *Options) hasTries() bool { return o.Version >= 2 }
 
-func (o *Options) goroutineLimit() int {
-	if o.Goroutines > 0 {
-		return o.Goroutines
-	}
-	return maxGoroutines
-}
-
-func (o *Options) eventLimit() int {
-	if o.Events > 0 && o.Events < maxEvents {
-		return o.Events
-	}
-	return maxEvents
-}
-
 // A Trace is the trace of a recording, up to where a limit is reached.
 type Trace struct {
 	*Recording
 	Options
 	objects    []object
 	goroutines []goroutine
-	to         int // so many records are looked at
-	begin      int // the first go: what stands before happens before all that others do
-	last       int // what stands from here on comes behind all accesses, and is left out
-	living     int // goroutines that are alive
+	events     []uint8 // of each record: so many does it become
+	living     int     // goroutines that are alive
 
 	names  names
 	text   strings.Builder // the declarations
-	counts [Order + 1]int  // of these, by kind; orders by what stands for them
+	counts map[string]int  // of these
 	kept   int             // goroutines that are declared
 	lent   int             // of these, that are lent a name
 	end    int             // the record at which the trace is cut off
 	cut    string          // why
 }
 
-// New makes the trace of a recording. What one goroutine alone does with a variable, a channel, a lock or a once is left out,
-// unless all is wanted.
+// New makes the trace of a recording. What one goroutine alone does with a channel, a lock or a once is left out, unless all is
+// wanted.
 func New(of *Recording, o Options) *Trace {
-	t := &Trace{Recording: of, Options: o}
-	t.survey(len(of.Records))
-	for end := t.lend(); end < t.to; end = t.lend() {
-		if crowd := t.crowd(); crowd > end && !t.All {
-			end = crowd
-		}
-		t.survey(end)
+	if o.Goroutines == 0 {
+		o.Goroutines = maxGoroutines
 	}
+	if o.Events == 0 || o.Events > maxEvents {
+		o.Events = maxEvents
+	}
+	t := &Trace{Recording: of, Options: o, end: len(of.Records)}
+	t.objects, t.events = make([]object, len(of.Objects)), make([]uint8, len(of.Records))
+	t.goroutines = make([]goroutine, 1)
+	t.survey()
+	t.findAlive()
+	t.lend()
 	t.declare()
 	return t
 }
 
-// End is how many of the recording's records the trace has: all but those behind a limit.
+// End is how many of the recording's records the trace has: all up to a limit.
 func (t *Trace) End() int { return t.end }
 
 // Cut is why the trace ends there, "" where it has all records.
@@ -109,27 +97,29 @@ type Summary struct {
 }
 
 // summary counts what was met, and which of it has a name in the trace. Among the channels are the orders, as of a Done before
-// a Wait, whatever stands for them.
+// a Wait.
 func (t *Trace) summary() *Summary {
 	s := &Summary{Records: t.end, Starts: map[string][]Start{}, Cut: t.cut}
 	if t.end < len(t.Records) {
 		s.Cut += ", at " + t.Sites[t.Records[t.end].Site].Place
+	} else {
+		s.Records += t.More
 	}
 	s.Goroutines = Count{t.kept + 1, len(t.goroutines)}
 	s.Names = s.Goroutines.Kept - t.lent
 	for id := range t.objects {
 		c := &s.Channels
 		switch kind := t.Objects[id].Kind; {
+		case kind == Once || id == 0:
+			continue
 		case kind.IsVariable():
 			c = &s.Variables
 		case kind == Mutex || kind == RWMutex:
 			c = &s.Locks
-		case kind == Once:
-			continue
 		}
-		if o := &t.objects[id]; o.user != 0 || len(o.atomics) > 0 {
+		if o := &t.objects[id]; o.user != 0 {
 			c.Met++
-			if o.name != "" || o.isMixed() {
+			if o.name != "" {
 				c.Kept++
 			}
 		}
@@ -138,19 +128,6 @@ func (t *Trace) summary() *Summary {
 		s.Variables.Met = t.Variables
 	}
 	return s
-}
-
-// Add adds what another segment has; the counts of both are summed, also those of what is in both.
-func (s *Summary) Add(t *Summary) {
-	s.Records += t.Records
-	s.Events += t.Events
-	s.Names += t.Names
-	for _, c := range [][2]*Count{
-		{&s.Goroutines, &t.Goroutines}, {&s.Variables, &t.Variables}, {&s.Channels, &t.Channels}, {&s.Locks, &t.Locks},
-	} {
-		c[0].Kept += c[1].Kept
-		c[0].Met += c[1].Met
-	}
 }
 
 // Counts is one line about the trace.

@@ -33,13 +33,15 @@ func writtenAs(t *testing.T, o Options, r *Recording) (string, *Summary) {
 
 func TestWhatOneGoroutineUsesIsLeftOut(t *testing.T) {
 	text, _ := written(t, of([]Record{
-		{Op: Write, Object: 1, Site: 1}, // before the first go
 		{Op: Go, Other: 1, Site: 1},
-		{Op: Write, Object: 2, Goroutine: 1, Site: 2}, // by one alone
+		{Op: Lock, Object: 2, Goroutine: 1, Site: 3}, // by one alone
 		{Op: Read, Object: 1, Goroutine: 1, Site: 2},
+		{Op: Unlock, Object: 2, Goroutine: 1, Site: 3},
 		{Op: Write, Object: 1, Site: 1},
+		{Op: Go, Other: 2, Site: 2}, // does nothing
 		{Op: Exit, Goroutine: 1, Site: 1},
-	}, x, Object{Kind: Variable, Site: 2}))
+		{Op: Exit, Goroutine: 2, Site: 1},
+	}, x, Object{Kind: Mutex, Site: 3}))
 	want := `gotrace 1
 goroutine g1
 var x
@@ -53,12 +55,13 @@ exit g1 a.go:1
 	}
 }
 
-func TestAtomicsBesidePlainAccesses(t *testing.T) {
+// TestAtomics: what stands for a goroutine's atomic operations has no values, so in another order each read finds its write.
+func TestAtomics(t *testing.T) {
 	text, _ := written(t, of([]Record{
 		{Op: Go, Other: 1, Site: 1},
-		{Op: AtomicWrite, Object: 1, Goroutine: 1, Site: 1},
+		{Op: Write, Object: 1, Goroutine: 1, Site: 1},
 		{Op: Read, Object: 1, Site: 2},
-	}, x))
+	}, Object{Kind: Atomic, Site: 1, By: 1}))
 	want := `gotrace 1
 goroutine g1
 var x_atomic_g1
@@ -152,61 +155,39 @@ func TestTooManyValuesAreCutOff(t *testing.T) {
 	}
 }
 
-// TestCounts: what is kept is counted as what was recorded, whatever it is written as.
+// TestCounts: orders are counted as channels, and what comes after all accesses as records.
 func TestCounts(t *testing.T) {
-	var atomics, orders []Record
-	for g := uint32(1); g <= 3; g++ {
-		atomics = append(atomics,
-			Record{Op: Go, Other: g, Site: 1},
-			Record{Op: AtomicWrite, Object: 1, Goroutine: g, Site: 1})
-	}
-	atomics = append(atomics, Record{Op: Read, Object: 1, Site: 2})
-	ordered := make([]Object, 70000)
-	for n := uint32(1); n <= 70000; n++ {
-		ordered[n-1] = Object{Kind: Order, Site: 1}
-		orders = append(orders, Record{Op: Release, Object: n, Site: 1})
+	const n = 7000
+	var orders []Record
+	ordered := make([]Object, n)
+	for id := uint32(1); id <= n; id++ {
+		ordered[id-1] = Object{Kind: Order, Site: 1}
+		orders = append(orders, Record{Op: Release, Object: id, Site: 1})
 	}
 	orders = append(orders, Record{Op: Go, Other: 1, Site: 1})
-	for n := uint32(1); n <= 70000; n++ {
-		orders = append(orders, Record{Op: Acquire, Object: n, Goroutine: 1, Site: 1})
+	for id := uint32(1); id <= n; id++ {
+		orders = append(orders, Record{Op: Acquire, Object: id, Goroutine: 1, Site: 1})
 	}
-	for _, c := range []struct {
-		of   *Recording
-		want string
-	}{
-		{of(atomics, x), "goroutines 4 of 4, variables 1 of 1, channels 0 of 0, locks 0 of 0"},
-		{of(orders, ordered...), "goroutines 2 of 2, variables 0 of 0, channels 70000 of 70000, locks 0 of 0"},
-	} {
-		if _, s := writtenAs(t, Options{Version: 1, All: true}, c.of); !strings.HasSuffix(s.Counts(), "; "+c.want) {
-			t.Errorf("got %s", s.Counts())
-		}
+	r := of(orders, ordered...)
+	r.More, r.Variables = 5, 9
+	want := "14001 events of 14006 records; goroutines 2 of 2, variables 0 of 9, channels 7000 of 7000, locks 0 of 0"
+	if _, s := written(t, r); s.Counts() != want {
+		t.Errorf("got %s", s.Counts())
 	}
 }
 
-// TestTooManyEventsAreCutOff: also where a record becomes several events, a trace has no more
-// than a judge takes.
+// TestTooManyEventsAreCutOff: a trace has no more than a judge takes.
 func TestTooManyEventsAreCutOff(t *testing.T) {
 	records := []Record{
 		{Op: Go, Other: 1, Site: 1},
-		{Op: AtomicWrite, Object: 1, Goroutine: 1, Site: 1},
-		{Op: Write, Object: 1, Site: 2}, // two events
-		{Op: Read, Object: 1, Goroutine: 1, Site: 2},
-		{Op: Write, Object: 1, Site: 2}, // two events
+		{Op: Write, Object: 1, Goroutine: 1, Site: 1},
+		{Op: Write, Object: 1, Site: 2},
 	}
-	for _, c := range []struct {
-		limit, events int
-		cut           string
-	}{
-		{7, 7, ""},
-		{6, 5, "more than 6 events, at a.go:2"},
-		{5, 5, "more than 5 events, at a.go:2"},
-		{4, 4, "more than 4 events, at a.go:2"},
-		{3, 2, "more than 3 events, at a.go:2"},
-	} {
-		text, s := writtenAs(t, Options{Version: 1, Events: c.limit}, of(records, x))
+	for limit, want := range map[int]string{3: "", 2: "more than 2 events, at a.go:2", 1: "more than 1 events, at a.go:1"} {
+		text, s := writtenAs(t, Options{Version: 1, Events: limit}, of(records, x))
 		_, events, _ := strings.Cut(text, "\ngo main ")
-		if n := 1 + strings.Count(events, "\n") - 1; n != c.events || s.Events != c.events || s.Cut != c.cut {
-			t.Errorf("%+v: %d events, cut off: %q\n%s", c, n, s.Cut, text)
+		if n := strings.Count(events, "\n"); n != limit || s.Events != limit || s.Cut != want {
+			t.Errorf("limit %d: %d events, cut off: %q\n%s", limit, n, s.Cut, text)
 		}
 	}
 }
@@ -287,7 +268,7 @@ func TestNamesAreLentOnByTries(t *testing.T) {
 }
 
 func TestNames(t *testing.T) {
-	n := names{"main": taken}
+	n := names{"main": 1}
 	var got []string
 	for _, s := range []string{"x", "x", "a.b", "nil", "main", "", "x_2", strings.Repeat("y", 90)} {
 		got = append(got, n.take(s))
@@ -371,47 +352,22 @@ func TestManyGoroutinesAtOnce(t *testing.T) {
 	}
 }
 
-// TestManyVariables: a trace ends in front of the variable that it has no name for.
-func TestManyVariables(t *testing.T) {
+// TestTooMany: a trace ends before the variable, the channel or the order that it has no name for.
+func TestTooMany(t *testing.T) {
 	const n = maxKind + 1
-	records, variables := []Record{{Op: Go, Other: 1, Site: 1}}, make([]Object, n)
-	for v := uint32(1); v <= n; v++ {
-		variables[v-1] = x
-		records = append(records, Record{Op: Write, Object: v, Site: 2}, Record{Op: Read, Object: v, Goroutine: 1, Site: 2})
-	}
-	_, s := written(t, of(records, variables...))
-	if s.Records != len(records)-2 || s.Cut != "more than 65,535 variables, at a.go:2" {
-		t.Errorf("%d of %d records, cut off: %q", s.Records, len(records), s.Cut)
-	}
-}
-
-// TestBehindTheLastAccess: what comes behind the last access that may race orders none. Where that is much it is left out.
-func TestBehindTheLastAccess(t *testing.T) {
-	for _, c := range []struct {
-		turns int
-		o     Options
-		locks int
-	}{
-		{shortRest/2 - 1, Options{Version: 1}, shortRest/2 + 1},
-		{shortRest / 2, Options{Version: 1}, 1},
-		{shortRest / 2, Options{Version: 1, All: true}, shortRest/2 + 2},
-		{shortRest / 2, Options{Version: 2, Predict: true}, shortRest/2 + 2},
-	} {
-		records := []Record{
-			{Op: Go, Other: 1, Site: 1},
-			{Op: Write, Object: 1, Site: 1},
-			{Op: Lock, Object: 2, Site: 3},
-			{Op: Unlock, Object: 2, Site: 3},
-			{Op: Write, Object: 1, Goroutine: 1, Site: 2},
-			{Op: Lock, Object: 2, Goroutine: 1, Site: 3},
-			{Op: Unlock, Object: 2, Goroutine: 1, Site: 3},
+	for kind, what := range map[ObjectKind]string{Variable: "variables", Order: "channels", RWMutex: "locks", Once: "onces"} {
+		first, second := Write, Read
+		if kind != Variable {
+			first, second = Release, Acquire // whatever it is
 		}
-		for i := 0; i < c.turns; i++ {
-			records = append(records, Record{Op: Lock, Object: 2, Site: 3}, Record{Op: Unlock, Object: 2, Site: 3})
+		records, objects := []Record{{Op: Go, Other: 1, Site: 1}}, make([]Object, n)
+		for id := uint32(1); id <= n; id++ {
+			objects[id-1] = Object{Kind: kind, Site: 1}
+			records = append(records, Record{Op: first, Object: id, Site: 2}, Record{Op: second, Object: id, Goroutine: 1, Site: 2})
 		}
-		text, s := writtenAs(t, c.o, of(records, x, Object{Kind: Mutex, Site: 3}))
-		if n := strings.Count(text, "\nlock "); n != c.locks || s.Records != len(records) || s.Cut != "" {
-			t.Errorf("%+v: %d locks, %d of %d records, cut off: %q", c, n, s.Records, len(records), s.Cut)
+		_, s := written(t, of(records, objects...))
+		if s.Records != len(records)-2 || s.Cut != "more than 65,535 "+what+", at a.go:2" {
+			t.Errorf("%d of %d records, cut off: %q", s.Records, len(records), s.Cut)
 		}
 	}
 }

@@ -9,6 +9,7 @@ import (
 type use struct {
 	at   uint32 // where its moment is in the list
 	refs uint32 // where the words that it is about begin, in memory.refs; before they are found, which access it is
+	next uint32 // one more than the next one after the same step
 	n    uint16 // so many words
 	what uint16 // the low half of access.what
 }
@@ -32,7 +33,7 @@ func (t *Translator) phaseOf(a *access) (at uint32, is phase) {
 	switch {
 	case !ok:
 		return 0, unknown
-	case t.all[at].pos >= t.memory.limit:
+	case t.all[at].pos >= t.limit:
 		return at, later
 	case t.isOver(&t.all[at]):
 		return at, over
@@ -40,33 +41,63 @@ func (t *Translator) phaseOf(a *access) (at uint32, is phase) {
 	return at, within
 }
 
-// gather finds the accesses of the first n steps that may matter, and what words they are about: those that somebody writes.
-// all: those behind the last step count too.
+// gather finds the accesses of the first n steps that may matter: those of words that several goroutines use, and that one of them
+// writes. all: those after the last step count too.
 func (t *Translator) gather(n int, all bool) {
-	t.memory.limit = t.store.first + uint64(n) - 1
+	t.limit = t.store.first + uint64(n) - 1
 	if all {
-		t.memory.limit++
+		t.limit++
 	}
 	for i := range t.accesses {
 		if at, is := t.phaseOf(&t.accesses[i]); is == within {
 			t.uses = append(withRoom(t.uses), use{at: at, refs: uint32(i)})
+			t.meets(&t.who[t.all[at].by])
 		}
 	}
-	t.findWritten(n)
+	t.touchPlain(true) // no other words may be in a race
+	t.touchAtomic(n)
+	t.touchPlain(false)
+	t.findWords(t.Trace.All)
 	kept := t.uses[:0]
 	for _, u := range t.uses {
 		a := &t.accesses[u.refs]
-		u.refs, u.n, u.what = uint32(len(t.refs)), uint16(a.words()), uint16(a.what)
-		if t.look(a.key(), &u, uint32(len(kept)+1)) {
+		u.refs, u.what = uint32(len(t.refs)), uint16(a.what)
+		t.findRefs(&u, a)
+		if u.n = uint16(len(t.refs) - int(u.refs)); u.n > 0 {
 			kept = append(kept, u)
-		} else {
-			t.refs = t.refs[:u.refs]
 		}
 	}
 	t.uses = kept
 }
 
-// carryAccesses leaves the accesses that later segments may have: what comes behind the last step, or may as well be done there.
+// isAlone reports whether main did something before another goroutine was there: it is in no race, but says whose memory it is.
+func (t *Translator) isAlone(pos uint64) bool { return pos < t.firstGo && !t.Trace.All }
+
+// touchPlain notes who reads, or who writes.
+func (t *Translator) touchPlain(writes bool) {
+	for i := range t.uses {
+		u := &t.uses[i]
+		if a := &t.accesses[u.refs]; a.isWrite() == writes && !t.isAlone(t.all[u.at].pos) {
+			t.touch(a.key(), a.words(), t.all[u.at].by, cellPlain, writes || t.Trace.All, writes)
+		}
+	}
+}
+
+// touchAtomic notes atomic operations of the program's.
+func (t *Translator) touchAtomic(n int) {
+	if t.store.atomics == 0 {
+		return
+	}
+	for i := range t.steps[:n] {
+		s := &t.steps[i]
+		if isAtomic(s.op()) && t.factsAt(s.site())&(inLock|isPrivate) == 0 && !t.isAlone(t.store.first+uint64(i)) {
+			t.atomic = append(withRoom(t.atomic), uint32(i))
+			t.touch(s.word(), 1, s.by, 0, s.writes(), s.writes())
+		}
+	}
+}
+
+// carryAccesses leaves the accesses that later segments may have: what comes after the last step, or may as well be done there.
 func (t *Translator) carryAccesses() {
 	t.store.accessed = 0
 	rest := t.accesses[:0]
@@ -87,72 +118,29 @@ func (t *Translator) carryAccesses() {
 	}
 }
 
-// findWritten finds the words that somebody writes: no other may be in a race.
-func (t *Translator) findWritten(steps int) {
-	for i := range t.uses {
-		if a := &t.accesses[t.uses[i].refs]; a.isWrite() || t.Trace.All {
-			key := a.key()
-			for n := a.words(); n > 0; n, key = n-1, key+1<<16 {
-				t.addWord(key)
+// findRefs finds the words that an access is about, of those that may matter.
+func (t *Translator) findRefs(u *use, a *access) {
+	m, mask, isKnown, isLeftOut := &t.all[u.at], u.mask(), false, false
+	hash := hashOf(uint64(u.at)<<16 | uint64(u.what&^late))
+	t.eachBlock(a.key(), a.words(), false, func(cells []uint32) {
+		for _, c := range cells {
+			if c == 0 || isLeftOut {
+				continue
+			}
+			if !isKnown {
+				isKnown, isLeftOut = true, t.factsAt(m.site)&(inRuntime|isHidden) != 0
+			}
+			if !isLeftOut {
+				w := &t.words[c-1]
+				w.starts |= mask & -mask
+				w.uses += hash
+				t.refs = append(t.refs, c-1)
 			}
 		}
+	})
+	if isKnown && !isLeftOut {
+		t.who[m.by].accesses = t.attempt
 	}
-	if t.atomics == 0 {
-		return
-	}
-	for i := range t.steps[:steps] {
-		s := &t.steps[i]
-		if op := s.op(); op == hooklog.AtomicStore || op == hooklog.AtomicRMW {
-			t.addWord(s.addr()>>3<<16 | s.key&0xffff)
-		}
-	}
-}
-
-func (m *memory) addWord(key uint64) {
-	at := uint32(len(m.words))
-	if _, isNew := m.byWord.add(key, at); isNew {
-		m.words = append(withRoom(m.words), word{key: key, at: at})
-		m.variables = append(withRoom(m.variables), variable{})
-	}
-}
-
-// noWord stands for a word that nobody writes.
-const noWord = 1<<32 - 1
-
-// ref is where the word with a key is in the list. That of the word before it, which an access is about too, is known.
-func (m *memory) ref(key uint64, before uint32) uint32 {
-	if next := before + 1; before != noWord && int(next) < len(m.words) && m.words[next].key == key {
-		return next
-	}
-	if at, ok := m.byWord.get(key); ok {
-		return at
-	}
-	return noWord
-}
-
-// look notes an access of words from that with a key on, and reports whether any of them is written.
-func (t *Translator) look(key uint64, u *use, number uint32) (matters bool) {
-	m, mask := &t.all[u.at], u.mask()
-	ref, f := uint32(noWord), facts(0)
-	for n := u.n; n > 0; n, key = n-1, key+1<<16 {
-		ref = t.memory.ref(key, ref)
-		t.refs = append(t.refs, ref)
-		if ref == noWord {
-			continue
-		}
-		if !matters {
-			if f = t.factsAt(m.site); f&(ofRuntime|isHidden) != 0 {
-				return false
-			}
-			matters = true
-			t.who[m.by].accesses = t.attempt
-		}
-		w := &t.words[ref]
-		w.starts |= mask & -mask
-		w.note(uint64(u.at)<<16 | uint64(u.what&^late))
-		t.variables[ref].use(m.by+1, u.isWrite(), f, number)
-	}
-	return matters
 }
 
 // refsOf are where the words are that an access is about.
@@ -166,64 +154,72 @@ func (t *Translator) position(u *use) int {
 	return 0
 }
 
-// sortAccesses sorts the accesses by how many of the n steps come before them.
-func (t *Translator) sortAccesses(n int) {
-	if cap(t.ends) < n+1 {
-		t.ends = make([]uint32, n+1, n+n/4+1)
+// lineUp lines the accesses that are kept up by how many of the n steps come before them, and answers how many there are up to the
+// last one, which may be atomic.
+func (t *Translator) lineUp(n int) (last int) {
+	if cap(t.lines) < n+1 {
+		t.lines = make([]uint32, n+1, n+n/4+1)
 	}
-	t.ends = t.ends[:n+1]
-	for i := range t.ends {
-		t.ends[i] = 0
+	t.lines = t.lines[:n+1]
+	for i := range t.lines {
+		t.lines[i] = 0
 	}
-	for i := range t.uses {
-		t.ends[t.position(&t.uses[i])]++
+	for i := len(t.uses) - 1; i >= 0; i-- {
+		u := &t.uses[i]
+		if !t.isKept(u) {
+			continue
+		}
+		steps := t.position(u)
+		u.next, t.lines[steps] = t.lines[steps], uint32(i+1)
+		if steps > last {
+			last = steps
+		}
 	}
-	sum := uint32(0)
-	for i, count := range t.ends {
-		t.ends[i] = sum // where they begin, until they are there
-		sum += count
-	}
-	if cap(t.sorted) < len(t.uses) {
-		t.sorted = make([]uint32, len(t.uses))
-	}
-	t.sorted = t.sorted[:len(t.uses)]
-	for i := range t.uses {
-		end := &t.ends[t.position(&t.uses[i])]
-		t.sorted[*end] = uint32(i)
-		*end++
+	t.eachAtomicPart(func(i, at uint32) {
+		if t.variables[at].is&racesAtomically != 0 && int(i) >= last {
+			last = int(i) + 1
+		}
+	})
+	return last
+}
+
+// putAccesses puts the accesses after so many steps.
+func (t *Translator) putAccesses(steps int) {
+	for i := t.lines[steps]; i != 0; i = t.uses[i-1].next {
+		t.putAccess(&t.uses[i-1])
 	}
 }
 
-// putAccesses puts the accesses behind so many steps.
-func (t *Translator) putAccesses(steps int) {
-	begin := uint32(0)
-	if steps > 0 {
-		begin = t.ends[steps-1]
+// isKept reports whether an access is about a variable that is kept.
+func (t *Translator) isKept(u *use) (is bool) {
+	if t.isAlone(t.all[u.at].pos) {
+		return false
 	}
-	for _, i := range t.sorted[begin:t.ends[steps]] {
-		t.putAccess(&t.uses[i])
-	}
+	t.eachPart(u, func(at uint32) { is = is || t.variables[at].id != 0 || t.variables[at].is&racesAtomically != 0 })
+	return is
 }
 
 // putAccess puts an access of each variable that is kept.
 func (t *Translator) putAccess(u *use) {
-	m, mask, last := &t.all[u.at], u.mask(), uint32(0)
-	for _, ref := range t.refsOf(u) {
-		if ref == noWord {
-			continue
-		}
-		w := &t.words[ref]
-		for part := w.starts & mask; part != 0; part &= part - 1 {
-			id := t.variables[w.first(part)].id
-			if id == 0 || id == last {
-				continue
-			}
-			last = id
-			r := trace.Record{Op: trace.Read, Object: id, Site: t.at(m.site), OtherSite: m.site, Goroutine: t.number(m.by)}
-			if u.isWrite() {
-				r.Op = trace.Write
-			}
+	m := &t.all[u.at]
+	r := trace.Record{Op: trace.Read, Site: t.placeAt(m.site), OtherSite: m.site, Goroutine: t.number(m.by)}
+	if u.isWrite() {
+		r.Op = trace.Write
+	}
+	t.eachPart(u, func(at uint32) {
+		v := &t.variables[at]
+		if v.id != 0 {
+			r.Object = v.id
 			t.put(r)
 		}
-	}
+		if v.is&racesAtomically == 0 {
+			return
+		}
+		for _, of := range t.atomicUses[at] {
+			if of.by != m.by {
+				r.Object = of.id
+				t.put(r)
+			}
+		}
+	})
 }

@@ -16,6 +16,7 @@ type actor struct {
 	gone    bool // it is known no more
 
 	// of a segment
+	started  uint64 // its go, if that is in the segment
 	number   uint32 // in the records
 	segment  uint32 // one more than the number of the last one in which it has one
 	accesses uint32 // the same of the last one in which it accesses something
@@ -96,7 +97,7 @@ func (t *Translator) begin(a *actor) {
 	}
 	r := trace.Record{Op: trace.Go, Other: a.number, Kind: uint8(trace.GoForeign)}
 	if a.site != 0 && !a.foreign {
-		r.Kind, r.Site, r.OtherSite = uint8(trace.GoEarlier), t.at(a.site), a.site
+		r.Kind, r.Site, r.OtherSite = uint8(trace.GoEarlier), t.placeAt(a.site), a.site
 	}
 	t.starts = append(t.starts, r)
 }

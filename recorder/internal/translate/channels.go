@@ -10,62 +10,26 @@ type channel struct {
 	id             uint32
 	capacity       uint32
 	closed         bool
-	sent, received uint64 // with what was there at the begin
-	met            uint64
-	first, last    uint32 // one more than where the values in its buffer are
+	sent, received uint64         // with what was there at the begin
+	buffer         []waitingValue // from head on
+	head           int
 }
 
 // waitingValue is one in a channel's buffer.
 type waitingValue struct {
 	element
-	next  uint32
 	begin uint32 // of one that was there at the begin: one more than where the state has it
-}
-
-// channels are those of a segment.
-type channels struct {
-	all    []channel
-	byKey  table
-	values []waitingValue
-	free   uint32
-}
-
-func (l *channels) empty() {
-	l.all, l.values, l.free = l.all[:0], l.values[:0], 0
-	l.byKey.skipped = 16
-	l.byKey.empty()
 }
 
 // waiting is how many values a channel's buffer has.
 func (c *channel) waiting() uint64 { return c.sent - c.received }
 
-// add appends a value to a channel's buffer.
-func (l *channels) add(c *channel, v waitingValue) {
-	at := l.free
-	if at != 0 {
-		l.free = l.values[at-1].next
-		l.values[at-1] = v
-	} else {
-		l.values = append(l.values, v)
-		at = uint32(len(l.values))
-	}
-	if c.last != 0 {
-		l.values[c.last-1].next = at
-	} else {
-		c.first = at
-	}
-	c.last = at
-}
-
 // take takes the first value out of a channel's buffer.
-func (l *channels) take(c *channel) waitingValue {
-	at := c.first
-	v := l.values[at-1]
-	if c.first = v.next; c.first == 0 {
-		c.last = 0
+func (c *channel) take() waitingValue {
+	v := c.buffer[c.head]
+	if c.head++; 2*c.head >= len(c.buffer) {
+		c.buffer, c.head = c.buffer[:copy(c.buffer, c.buffer[c.head:])], 0
 	}
-	l.values[at-1].next = l.free
-	l.free = at
 	return v
 }
 
@@ -77,7 +41,7 @@ func (t *Translator) elementOf(s *step) element {
 	return t.elements[s.more-1]
 }
 
-// before is how many values were in a channel's buffer before a step. What is done for one that waits stands behind what made
+// before is how many values were in a channel's buffer before a step. What is done for one that waits comes after what made
 // it possible, but it says how many there were before that.
 func (s *step) before() uint64 {
 	n := uint64(s.waiting())
@@ -93,54 +57,41 @@ func (s *step) before() uint64 {
 // channelOf is the channel that a step is about. One whose buffer has other values than it should is another one in the same
 // memory, or something was done with it that has no record.
 func (t *Translator) channelOf(s *step) *channel {
-	at, isNew := t.channels.byKey.add(s.key, uint32(len(t.channels.all)))
-	if !isNew {
-		c := &t.channels.all[at]
-		if c.capacity == s.capacity() && c.waiting() == s.before() {
-			return c
-		}
-		t.channels.byKey.set(s.key, uint32(len(t.channels.all)))
+	c := t.channels.get(s.key)
+	if c != nil && c.capacity == s.capacity() && c.waiting() == s.before() {
+		return c
 	}
 	id := t.objectAt(trace.Object{Kind: trace.Channel, Capacity: s.capacity()}, KindChannel, s.site(), s.addr())
-	t.channels.all = append(t.channels.all, channel{id: id, capacity: s.capacity()})
-	c := &t.channels.all[len(t.channels.all)-1]
-	for n := s.before(); c.sent < n; {
-		c.sent++
-		t.bring(id, trace.Send, c.sent)
-		t.channels.add(c, waitingValue{begin: uint32(len(t.state))})
+	c = t.channels.put(s.key, channel{id: id, capacity: s.capacity(), sent: s.before()})
+	for n := uint64(1); n <= c.sent; n++ {
+		t.bring(id, trace.Send, n)
+		c.buffer = append(c.buffer, waitingValue{begin: uint32(len(t.state))})
 	}
 	return c
 }
 
 // channel is an operation on a channel.
 func (t *Translator) channel(s *step) {
-	op, who := s.op(), s.by
-	if s.other() != 0 && op != hooklog.Meet {
-		who = s.other() - 1
+	if s.other() != 0 && s.op() != hooklog.Meet {
+		own := *s
+		own.by = s.other() - 1
+		s = &own
 	}
-	r := trace.Record{Goroutine: t.number(who), Site: t.at(s.site())}
+	r := t.record(trace.None, 0, s)
 	c := t.channelOf(s)
 	r.Object = c.id
-	switch op {
+	switch s.op() {
 	case hooklog.Meet:
-		t.meet(s, c, r)
-		return
+		t.meet(s, c, &r)
 	case hooklog.Send:
-		if c.capacity == 0 {
-			return // no hook says so
-		}
 		t.send(s, c, &r)
 	case hooklog.Receive:
-		if c.waiting() == 0 {
-			return // nor this
-		}
 		t.receive(s, c, &r)
 	case hooklog.Close:
-		if c.closed {
-			return
+		if !c.closed {
+			r.Op = trace.Close
 		}
 		c.closed = true
-		r.Op = trace.Close
 	case hooklog.ReceiveClosed:
 		if !c.closed {
 			c.closed = true
@@ -148,22 +99,31 @@ func (t *Translator) channel(s *step) {
 		}
 		r.Op = trace.ReceiveClosed
 	}
-	t.put(r)
+	if r.Op != trace.None {
+		t.put(r)
+	}
 }
 
+// send is one to a buffer: no hook tells another one so.
 func (t *Translator) send(s *step, c *channel, r *trace.Record) {
+	if c.capacity == 0 {
+		return
+	}
 	c.sent++
 	r.Op, r.Value = trace.Send, c.sent
 	e := t.elementOf(s)
 	setElement(r, e)
-	t.channels.add(c, waitingValue{element: e})
+	c.buffer = append(c.buffer, waitingValue{element: e})
 }
 
-// receive takes the first value of a buffer. What was there at the begin is known from this.
+// receive takes the first value of a buffer: no hook tells it of an empty one. What was there at the begin is known from this.
 func (t *Translator) receive(s *step, c *channel, r *trace.Record) {
+	if c.waiting() == 0 {
+		return
+	}
 	c.received++
 	r.Op, r.Value = trace.Receive, c.received
-	v := t.channels.take(c)
+	v := c.take()
 	if v.begin != 0 {
 		v.element = t.elementOf(s)
 		setElement(&t.state[v.begin-1], v.element)
@@ -179,16 +139,16 @@ func setElement(r *trace.Record, e element) {
 }
 
 // meet is a send and its receive without a buffer.
-func (t *Translator) meet(s *step, c *channel, r trace.Record) {
+func (t *Translator) meet(s *step, c *channel, r *trace.Record) {
 	e := t.elementOf(s)
-	c.met++
-	r.Op, r.Value = trace.Meet, c.met
-	setElement(&r, e)
-	r.Other, r.OtherSite = t.number(s.other()), t.at(e.waits)
+	c.sent++
+	c.received++
+	r.Op, r.Value = trace.Meet, c.sent
+	setElement(r, e)
+	r.Other, r.OtherSite = t.number(s.other()), t.placeAt(e.waits)
 	if s.aux() == 0 {
 		r.Goroutine, r.Other, r.Site, r.OtherSite = r.Other, r.Goroutine, r.OtherSite, r.Site
 	}
-	t.put(r)
 }
 
 // mostCases is how many cases a trace has of a default.
@@ -207,23 +167,24 @@ func (t *Translator) defaultOf(s *step, seq uint64) {
 			n++
 		}
 	}
-	t.note(trace.Default, 0, s)
-	t.out[len(t.out)-1].Count = uint16(n)
-	t.out = append(t.out, cases[:n]...)
+	t.putDefault(s, cases[:n])
 }
 
 // singleDefault is that of a select of one case.
 func (t *Translator) singleDefault(s *step) {
-	c := t.caseOf(s, s, hooklog.DefaultSend)
-	t.note(trace.Default, 0, s)
-	t.out[len(t.out)-1].Count = 1
-	t.put(c)
+	t.putDefault(s, []trace.Record{t.caseOf(s, s, hooklog.DefaultSend)})
+}
+
+func (t *Translator) putDefault(s *step, cases []trace.Record) {
+	r := t.record(trace.Default, 0, s)
+	r.Count = uint16(len(cases))
+	t.put(r)
+	t.out = append(t.out, cases...)
 }
 
 // caseOf is a case of a default.
 func (t *Translator) caseOf(c, of *step, send hooklog.Op) trace.Record {
-	r := trace.Record{Op: trace.Case, Goroutine: t.number(of.by), Site: t.at(of.site())}
-	r.Object = t.channelOf(c).id
+	r := t.record(trace.Case, t.channelOf(c).id, of)
 	if c.op() == send {
 		r.Kind = trace.IsSend
 	}

@@ -6,47 +6,36 @@ import (
 	"gorace.local/recorder/internal/symbols"
 )
 
-// facts are what is known of a site from the functions on its stack.
+// facts are what is known of a call from its function, and of a site from the calls on its stack.
 type facts uint16
 
+// Facts of both. Where a stack has one of the last five, the call that it is about has it.
 const (
-	known     facts = 1 << iota
-	isLibrary       // no call is outside Go's own source
-	ofRuntime       // each is in package runtime
-	inLock          // it is in a Mutex, a RWMutex or a WaitGroup
-	inOnce          // it is in a Once
-	isPrivate       // what it orders is nobody's business: private.go
-	isHidden        // nor is what it accesses
-	beneath         // some call is of a function whose orders are private
-	isOwn           // it is code outside the library, or the runtime on its behalf
-	ofMap           // it is in the runtime's code of maps
-	isKin           // it is in a package some functions of which have private orders, as where that sets up its memory
+	inLibrary facts = 1 << iota // of Go's own source; of a stack: each call is
+	inRuntime                   // of package runtime; of a stack: each call is
+	ofMap                       // it is the runtime's code of maps
+	inLock                      // of a Mutex, a RWMutex or a WaitGroup
+	inOnce                      // of a Once's Do
+	isPrivate                   // what it orders is nobody's business: private.go
+	isHidden                    // nor is what it accesses
+	isKin                       // it is in a package some functions of which have private orders, as where that sets up its memory
+
+	// Of calls alone.
+	inAtomics // of package sync/atomic
+	inSync    // another one of package sync, or of internal/sync
+	forOthers // it does what its caller wants, whose orders count
+	callsHook // it is one of the hooks, or calls them for package sync and others
+
+	// Of stacks alone.
+	beneath // some call is of a function whose orders are private
+	isOwn   // it is code outside the library, or the runtime on its behalf
 )
 
 // unknownStack are those of a site whose stack nobody knows: it may be the program's own.
-const unknownStack = known | isOwn
+const unknownStack = isOwn
 
-// trait is what is known of a call from its function.
-type trait uint16
-
-const (
-	callsHook    trait = 1 << iota // it is one of the hooks, or calls them for package sync and others
-	inLibrary                      // of Go's own source
-	inRuntime                      // of the runtime
-	inLocks                        // of a Mutex, a RWMutex or a WaitGroup
-	inOnces                        // of a Once's Do
-	inAtomics                      // of package sync/atomic
-	inSync                         // another one of package sync
-	inSyncWithin                   // or of package internal/sync
-	hasPrivate                     // its orders are private
-	isolated                       // and what it accesses is its package's own
-	hasKin                         // those of other functions of its package are
-	forOthers                      // it does what its caller wants, whose orders count
-	inMaps                         // it is the runtime's code of maps
-)
-
-// traitsOf are those of a call.
-func (t *Translator) traitsOf(f symbols.Frame) (is trait) {
+// factsOfCall are those of a call.
+func (t *Translator) factsOfCall(f symbols.Frame) (is facts) {
 	pkg := packageOf(f.Function)
 	rest := strings.TrimPrefix(f.Function, pkg+".")
 	if isHook(pkg, rest) {
@@ -61,29 +50,27 @@ func (t *Translator) traitsOf(f symbols.Frame) (is trait) {
 	case pkg == "sync/atomic":
 		is |= inAtomics
 	case pkg == "sync" && (strings.HasPrefix(rest, "(*Once).Do") || strings.HasPrefix(rest, "(*Once).doSlow")):
-		is |= inOnces
-	case (pkg == "sync" || pkg == "internal/sync") && isLockOf(rest):
-		is |= inLocks
-	case pkg == "sync":
-		is |= inSync
-	case pkg == "internal/sync":
-		is |= inSyncWithin
+		is |= inOnce
+	case pkg == "sync" || pkg == "internal/sync":
+		if is |= inSync; isLockOf(rest) {
+			is |= inLock
+		}
 	}
-	if isOfMap(f.Function) {
-		is |= inMaps
+	if strings.HasPrefix(f.Function, "runtime.map") || strings.HasPrefix(f.Function, "internal/runtime/maps.") {
+		is |= ofMap
 	}
 	if doesForOthers(pkg) {
 		is |= forOthers
 	}
 	if p := private[pkg]; p != nil && !(t.InTurn && givesPlaces(pkg, rest)) {
-		if !doesForOthers(pkg) {
-			is |= hasKin
+		if is&forOthers == 0 {
+			is |= isKin
 		}
 		switch {
 		case p.has(rest) && p.shares:
-			is |= hasPrivate
+			is |= isPrivate
 		case p.has(rest):
-			is |= hasPrivate | isolated
+			is |= isPrivate | isHidden
 		case p.helped:
 			is |= forOthers
 		}
@@ -126,80 +113,62 @@ func isLockOf(name string) bool {
 	return false
 }
 
-func isOfMap(function string) bool {
-	return strings.HasPrefix(function, "runtime.map") || strings.HasPrefix(function, "internal/runtime/maps.")
-}
-
-// traitsAt are those of the calls that a return address stands for.
-func (t *Translator) traitsAt(ret uint64) []trait {
-	at, isNew := t.traits.add(ret, uint32(len(t.listed)))
-	if isNew {
-		frames := t.symbols.Frames(ret)
-		t.listed = append(t.listed, trait(len(frames)))
-		for _, f := range frames {
-			t.listed = append(t.listed, t.traitsOf(f))
+// callsAt are the facts of the calls that a return address stands for.
+func (t *Translator) callsAt(ret uint64) []facts {
+	calls, ok := t.calls[ret]
+	if !ok {
+		for _, f := range t.symbols.Frames(ret) {
+			calls = append(calls, t.factsOfCall(f))
 		}
+		t.calls[ret] = calls
 	}
-	n := uint32(t.listed[at])
-	return t.listed[at+1 : at+1+n]
+	return calls
 }
 
-// factsOf are those of a stack.
+// factsOf are those of a stack. What a call does for another one is told by the first call that doesn't.
 func (t *Translator) factsOf(stack []uint64) facts {
-	g := gathering{facts: known | isLibrary | ofRuntime}
+	var calls []facts
+	all, any := inLibrary|inRuntime, facts(0)
 	for _, ret := range stack {
-		for _, is := range t.traitsAt(ret) {
+		for _, is := range t.callsAt(ret) {
 			if is&callsHook == 0 {
-				g.add(is)
+				calls = append(calls, is)
+				all &= is
+				any |= is
 			}
 		}
 	}
-	if g.calls == 0 {
+	if len(calls) == 0 {
 		return unknownStack
 	}
-	return g.facts
+	first := func(without facts) facts {
+		for _, is := range calls {
+			if is&without == 0 {
+				return is
+			}
+		}
+		return inLibrary
+	}
+	own := first(inRuntime)
+	is := all | calls[0]&ofMap | own&isKin | first(inAtomics|inRuntime)&inLock
+	if own&inLibrary == 0 {
+		is |= isOwn
+	}
+	if first(inAtomics|inRuntime|inSync)&inOnce != 0 {
+		is |= inLock | inOnce
+	}
+	if any&isPrivate != 0 {
+		is |= beneath | firstPrivate(calls)&(isPrivate|isHidden)
+	}
+	return is
 }
 
-// gathering gathers facts from the calls of a stack, the innermost first. What a call does for another one is told by the first
-// call that doesn't: then it is decided.
-type gathering struct {
-	facts
-	calls   int
-	decided struct{ own, lock, once, private bool }
-}
-
-func (g *gathering) add(is trait) {
-	g.calls++
-	g.set(g.calls == 1 && is&inMaps != 0, ofMap)
-	g.set(is&hasPrivate != 0, beneath)
-	if is&inRuntime == 0 {
-		g.facts &^= ofRuntime
+// firstPrivate is the first call whose orders are private, or that does nothing for others.
+func firstPrivate(calls []facts) facts {
+	for _, is := range calls {
+		if is&isPrivate != 0 || is&forOthers == 0 {
+			return is
+		}
 	}
-	if is&inLibrary == 0 {
-		g.facts &^= isLibrary
-	}
-	if d := &g.decided; !d.own && is&inRuntime == 0 {
-		d.own = true
-		g.set(is&inLibrary == 0, isOwn)
-		g.set(is&hasKin != 0, isKin)
-	}
-	if d := &g.decided; !d.lock && is&(inAtomics|inRuntime) == 0 {
-		d.lock = true
-		g.set(is&inLocks != 0, inLock)
-	}
-	if d := &g.decided; !d.once && is&(inAtomics|inRuntime|inLocks|inSync|inSyncWithin) == 0 {
-		d.once = true
-		g.set(is&inOnces != 0, inLock|inOnce)
-	}
-	if d := &g.decided; !d.private && (is&hasPrivate != 0 || is&forOthers == 0) {
-		d.private = true
-		g.set(is&hasPrivate != 0, isPrivate)
-		g.set(is&isolated != 0, isHidden)
-	}
-}
-
-func (g *gathering) set(is bool, f facts) {
-	if is {
-		g.facts |= f
-	}
+	return 0
 }

@@ -154,11 +154,7 @@ func TestTimesInARow(t *testing.T) {
 			t.Errorf("predict %v: main locks %d times\n%s", predict, n, text)
 		}
 		event := 1 + strings.Count(text[:strings.Index(text, "main.go:13")], "\n") - strings.Count(text[:strings.Index(text, "\ngo ")+1], "\n")
-		moments, err := s.Trace.Moments(map[int]bool{event: true})
-		if err != nil {
-			t.Fatal(err)
-		}
-		if got := moments[event].String(); got != "after lock of mu at main.go:2" {
+		if got := s.Trace.Moments(map[int]bool{event: true})[event].String(); got != "after lock of mu at main.go:2" {
 			t.Errorf("predict %v: the third write is %s\n%s", predict, got, text)
 		}
 	}

@@ -58,14 +58,14 @@ func (t *Translator) isOver(m *moment) bool {
 	return m.pos+1 < t.store.first && m.pos < t.who[m.by].before
 }
 
-// goesOn reports whether a moment goes on behind the steps of the segment: its goroutine has done none since. Then what
-// is done at it may as well be done behind them.
+// goesOn reports whether a moment goes on after the steps of the segment: its goroutine has done none since. Then what is done at it
+// may as well be done after them.
 func (t *Translator) goesOn(m *moment) bool {
 	a := &t.who[m.by]
 	return !a.ended && a.last <= m.pos
 }
 
-// carryMoments leaves those that accesses of later segments may be about: what comes behind the last step, or goes on there.
+// carryMoments leaves those that accesses of later segments may be about: what comes after the last step, or goes on there.
 func (t *Translator) carryMoments(last uint64) {
 	all, ids := t.all, t.ids
 	t.moments.before, t.all, t.ids, t.slots = all, t.moments.before[:0], t.ids[:0], t.slots[:0]

@@ -1,6 +1,7 @@
 package translate
 
 import (
+	"math/bits"
 	"strings"
 
 	"gorace.local/recorder/internal/symbols"
@@ -19,11 +20,17 @@ const (
 	KindOrder  // what the library orders
 	KindWake   // of a Cond
 	kindVariable
-	kinds
 )
 
-// byKind are the names of what has no other. What the library orders has none.
-var byKind = [kinds]string{KindChannel: "chan", KindLock: "lock", KindOnce: "once", KindAtomic: "atomic", KindWake: "wake"}
+// name is a name, or that of a kind where there is none. What the library orders has none then.
+func (k Kind) name(name string) string {
+	if strings.Trim(name, "_") != "" {
+		return name
+	}
+	return [...]string{
+		KindChannel: "chan", KindLock: "lock", KindOnce: "once", KindAtomic: "atomic", KindOrder: "", KindWake: "wake", kindVariable: "memory",
+	}[k]
+}
 
 // Heap is an object of the heap.
 type Heap struct {
@@ -52,43 +59,59 @@ type Namer interface {
 	Object(kind Kind, addr uint64, object *Heap, frames []symbols.Frame) string
 }
 
-// A name is remembered by what it depends on: the sites, and which part of what it is.
-type partOf struct {
-	typ    uint64
-	offset uint64 // in the heap's object of this type, or where nothing is known of that, the address
+// nameKey is what a name is remembered by: a hash of the sites and the kinds of the uses, and of what part of what it is.
+type nameKey uint64
+
+func (k *nameKey) add(words ...uint64) {
+	for _, word := range words {
+		h := (uint64(*k) ^ word) * 0x9E3779B97F4A7C15
+		*k = nameKey(h ^ h>>29)
+	}
 }
 
-// objectName is what the name of an object is remembered by.
-type objectName struct {
-	site uint32
-	kind Kind
-	partOf
-}
-
-// part answers the object of the heap at an address, and what part of it that is.
-func (t *Translator) part(addr, pos uint64) (*heapObject, partOf) {
+// addPart adds which part of what an address is: of the heap's object there, which it answers, or where nothing is known of that,
+// of all memory.
+func (t *Translator) addPart(k *nameKey, addr, pos uint64) *Heap {
 	h := t.heap.at(addr, pos)
 	if h == nil {
-		return nil, partOf{0, addr}
+		k.add(0, addr)
+		return nil
 	}
-	offset := addr - h.base
-	if size := t.sizeOf(h.typ); size > 0 && h.size >= 2*size {
+	offset := addr - h.Base
+	if size := t.sizeOf(h.Type); size > 0 && h.Size >= 2*size {
 		offset %= size
 	}
-	return h, partOf{uint64(h.typ), offset}
+	k.add(h.Type, offset)
+	return h
 }
 
 // sizeOf is that of a type's values, 0 if it isn't known.
-func (t *Translator) sizeOf(typ uint32) uint64 {
+func (t *Translator) sizeOf(typ uint64) uint64 {
 	if t.Namer == nil || typ == 0 {
 		return 0
 	}
 	size, ok := t.sizes[typ]
 	if !ok {
-		size = t.Namer.Size(uint64(typ))
+		size = t.Namer.Size(typ)
 		t.sizes[typ] = size
 	}
 	return size
+}
+
+// nameAs is a name that is remembered: the number of its site, and how far before the address the variable begins.
+type nameAs struct {
+	site   uint32
+	before uint32
+}
+
+// remembered answers what is remembered, or else is found now.
+func (p *places) remembered(k nameKey, find func() nameAs) nameAs {
+	as, ok := p.names[k]
+	if !ok {
+		as = find()
+		p.names[k] = as
+	}
+	return as
 }
 
 // unnamed is an object that may be asked for its name: where it is used first, and its address, or which variable it is.
@@ -106,19 +129,51 @@ type unnamed struct {
 func (t *Translator) Name(s *Segment) {
 	parts := map[uint32]uint32{} // variables that are a part of another one
 	for i := range t.unnamed {
-		switch n := &t.unnamed[i]; n.kind {
-		case kindVariable:
-			if of := t.nameVariable(n); of != n.id {
-				parts[n.id] = of
-			}
-		default:
-			t.objects[n.id].Site = t.nameOfObject(n.site, n.kind, n.addr)
+		n := &t.unnamed[i]
+		if n.kind != kindVariable {
+			t.objects[n.id].Site = t.nameOfObject(n)
+		} else if of := t.nameVariable(n); of != n.id {
+			parts[n.id] = of
 		}
 	}
 	of := s.Trace.Recording
-	of.Sites = t.places.table
+	of.Sites = t.table
 	joinParts(of.Records, parts)
 	s.Trace = trace.New(of, t.Trace)
+}
+
+// nameVariable names a variable, and answers which one it is a part of, if not itself. Parts of one value are one variable if it is
+// a package variable: of other memory nobody knows which words have been used together, since each has a generation of its own.
+func (t *Translator) nameVariable(n *unnamed) (of uint32) {
+	o, v := &t.objects[n.id], &t.variables[n.variable]
+	site, begin := t.nameOfVariable(n.addr, v)
+	o.Site = site
+	if begin == n.addr || isInHeap(n.addr) || o.Kind == trace.Atomic {
+		return n.id
+	}
+	if first := t.partOf(begin, uint64(n.gen), n.variable); first != v && first.id != 0 {
+		v.id = first.id
+		if o := &t.objects[first.id]; o.Kind == trace.Variable {
+			o.Kind = trace.Content
+		}
+	}
+	return v.id
+}
+
+// isInHeap reports whether an address is where a program with hooks has its heap and its stacks.
+func isInHeap(addr uint64) bool { return addr-0xc000000000 < 0x2000000000 }
+
+// partOf is the variable that stands for a value which begins at an address: the one there, if it is kept, else the first other part.
+func (t *Translator) partOf(begin, gen uint64, part uint32) *variable {
+	if w := t.wordAt(begin>>3<<16 | gen); w != nil {
+		at, bit := uint32(0), uint8(1)<<(begin&7)
+		w.each(bit, func(i uint32) { at = i })
+		if v := &t.variables[at]; w.starts&bit != 0 && v.id != 0 {
+			return v
+		}
+	}
+	at, _ := t.values.add(begin<<16|gen, part)
+	return &t.variables[at]
 }
 
 // joinParts has what is recorded of a part be about the variable that it is a part of; an access of several parts is one.
@@ -137,46 +192,27 @@ func joinParts(records []trace.Record, parts map[uint32]uint32) {
 	}
 }
 
-func (t *Translator) nameOfObject(id uint32, kind Kind, addr uint64) uint32 {
-	heap, part := t.part(addr, ^uint64(0))
-	k := objectName{id, kind, part}
-	if n, ok := t.objectNames[k]; ok {
-		return n
-	}
-	place, name := "-", ""
-	frames := t.framesAt(id)
-	if f, ok := t.told(frames); ok {
-		place = t.placeOf(f)
-	}
-	if t.Namer != nil {
-		name = t.Namer.Object(kind, addr, heap.told(), frames)
-	}
-	if strings.Trim(name, "_") == "" {
-		name = byKind[kind]
-	}
-	n := t.numberOf(place, name)
-	t.objectNames[k] = n
-	return n
-}
-
-// variableName is what the name of a variable is remembered by: a hash of the sites and the kinds of its uses, and of what part
-// of what it is.
-type variableName uint64
-
-func (n *variableName) add(word uint64) {
-	h := (uint64(*n) ^ word) * 0x9E3779B97F4A7C15
-	*n = variableName(h ^ h>>29)
-}
-
-// nameAs is a name that is remembered: the number of its site, and how far in front of the address the variable begins.
-type nameAs struct {
-	site   uint32
-	before uint32
+// nameOfObject is the number of a site with the name of an object.
+func (t *Translator) nameOfObject(n *unnamed) (site uint32) {
+	k := nameKey(n.kind)
+	heap := t.addPart(&k, n.addr, ^uint64(0))
+	k.add(uint64(n.site), 1)
+	return t.remembered(k, func() nameAs {
+		place, name := "-", ""
+		frames := t.framesAt(n.site)
+		if f, ok := t.told(frames); ok {
+			place = t.placeOf(f)
+		}
+		if t.Namer != nil {
+			name = t.Namer.Object(n.kind, n.addr, heap, frames)
+		}
+		return nameAs{site: t.numberOf(place, n.kind.name(name))}
+	}).site
 }
 
 // nameOfVariable is the number of a site with the name of a variable, and where that begins.
 func (t *Translator) nameOfVariable(addr uint64, v *variable) (site uint32, begin uint64) {
-	var k variableName
+	var k nameKey
 	pos := uint64(0)
 	for _, use := range v.uses {
 		if use == 0 {
@@ -190,34 +226,22 @@ func (t *Translator) nameOfVariable(addr uint64, v *variable) (site uint32, begi
 			pos = m.pos
 		}
 	}
-	heap, part := t.part(addr, pos)
-	k.add(part.typ)
-	k.add(part.offset)
-	at, isNew := t.variableNames.add(uint64(k), uint32(len(t.namesAs)))
-	if isNew {
-		t.namesAs = append(t.namesAs, t.nameNow(addr, heap, v))
-	}
-	as := &t.namesAs[at]
+	heap := t.addPart(&k, addr, pos)
+	as := t.remembered(k, func() nameAs {
+		name, begin := "", addr
+		if t.Namer != nil {
+			name, begin = t.Namer.Variable(addr, heap, t.usesOf(v))
+		}
+		as := nameAs{site: t.numberOf("-", kindVariable.name(name))}
+		if begin != 0 && begin < addr && addr-begin <= longestValue {
+			as.before = uint32(addr - begin)
+		}
+		return as
+	})
 	return as.site, addr - uint64(as.before)
 }
 
-// nameNow asks for the name of a variable.
-func (t *Translator) nameNow(addr uint64, heap *heapObject, v *variable) nameAs {
-	name, begin := "", addr
-	if t.Namer != nil {
-		name, begin = t.Namer.Variable(addr, heap.told(), t.usesOf(v))
-	}
-	if strings.Trim(name, "_") == "" {
-		name = "memory"
-	}
-	as := nameAs{site: t.numberOf("-", name)}
-	if begin != 0 && begin < addr && addr-begin <= longestValue {
-		as.before = uint32(addr - begin)
-	}
-	return as
-}
-
-// longestValue is how far behind the begin of a value of several words, as a slice's or a bytes.Buffer's, its last word begins.
+// longestValue is how far after the begin of a value of several words, as a slice's or a bytes.Buffer's, its last word begins.
 // What is longer may have parts that are used beside one another.
 const longestValue = 56
 
@@ -237,12 +261,8 @@ func (t *Translator) usesOf(v *variable) []Use {
 
 // bytesOf is how many bytes a mask is about, or 0 for a single one, which stands for what begins there.
 func bytesOf(mask uint8) int {
-	n := 0
-	for ; mask != 0; mask &= mask - 1 {
-		n++
+	if n := bits.OnesCount8(mask); n > 1 {
+		return n
 	}
-	if n == 1 {
-		return 0
-	}
-	return n
+	return 0
 }

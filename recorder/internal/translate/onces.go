@@ -13,36 +13,17 @@ type once struct {
 	own   bool // the Do that has run the function hasn't returned yet
 }
 
-// onces are those of a segment.
-type onces struct {
-	all   []once
-	byKey table
-}
-
-func (l *onces) empty() {
-	l.all = l.all[:0]
-	l.byKey.skipped = 16
-	l.byKey.empty()
-}
-
 func (t *Translator) newOnce(s *step) *once {
-	t.onces.byKey.set(s.key, uint32(len(t.onces.all)))
 	id := t.objectAt(trace.Object{Kind: trace.Once}, KindOnce, s.site(), s.addr())
-	t.onces.all = append(t.onces.all, once{id: id, by: s.by})
-	return &t.onces.all[len(t.onces.all)-1]
+	return t.onces.put(s.key, once{id: id, by: s.by})
 }
 
 // once is a step about a once.
 func (t *Translator) once(s *step) {
-	var o *once
-	if at, ok := t.onces.byKey.get(s.key); ok && s.op() != hooklog.OnceBegin {
-		o = &t.onces.all[at]
-	}
-	switch s.op() {
+	switch o := t.onces.get(s.key); s.op() {
 	case hooklog.OnceBegin:
-		o = t.newOnce(s)
 		t.who[s.by].open++
-		t.note(trace.OnceBegin, o.id, s)
+		t.note(trace.OnceBegin, t.newOnce(s).id, s)
 	case hooklog.OnceEnd:
 		t.endOnce(o, s)
 	case hooklog.OnceDone:
@@ -54,8 +35,7 @@ func (t *Translator) once(s *step) {
 func (t *Translator) endOnce(o *once, s *step) {
 	if o == nil {
 		o = t.newOnce(s)
-		begin := trace.Record{Op: trace.OnceBegin, Object: o.id, Goroutine: t.number(s.by), Site: t.objects[o.id].Site}
-		t.begun = append(t.begun, begin)
+		t.begun = append(t.begun, t.record(trace.OnceBegin, o.id, s))
 		t.who[s.by].open++
 	}
 	if !o.ended && o.by == s.by {

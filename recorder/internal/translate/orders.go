@@ -8,7 +8,7 @@ import (
 // release is what a goroutine has done up to a point, if another comes after it: only then it has a record.
 type release struct {
 	addr uint64
-	at   uint32 // one more than where its record is
+	at   uint32 // where its record is
 	by   uint32 // the number of the goroutine
 	id   uint32 // 0 while nobody comes after it
 	site uint32
@@ -20,6 +20,7 @@ type release struct {
 
 // ordering is what counts at an address: who acquires there comes after these releases.
 type ordering struct {
+	number      uint32
 	first, last uint32 // one more than a release, 0 for none
 	taken, upTo uint32 // one more than who has acquired last, and the last release then
 	added       uint32 // releases beside others
@@ -34,26 +35,32 @@ func (o *ordering) only(from uint32) { o.first, o.last, o.taken, o.upTo = from, 
 // orders are those of a segment.
 type orders struct {
 	releases []release
-	all      []ordering
-	byKey    [2]table // what the library says, what atomic operations do
-	seen     table    // who came after which release
-	own      table    // the last release of a goroutine at an address
+	library  keyed[ordering] // what the library says
+	atomics  keyed[ordering] // what atomic operations do
+	seen     table           // who came after which release
+	own      table           // the last release of a goroutine at an address
 }
 
 func (o *orders) empty() {
-	o.releases, o.all = o.releases[:0], o.all[:0]
-	for i := range o.byKey {
-		o.byKey[i].skipped = 16
-		o.byKey[i].empty()
-	}
+	o.releases = o.releases[:0]
+	o.library.empty()
+	o.atomics.empty()
 	o.seen.empty()
 	o.own.empty()
 }
 
+// orderingAt is what counts at an address.
+func orderingAt(list *keyed[ordering], key uint64) *ordering {
+	if o := list.get(key); o != nil {
+		return o
+	}
+	return list.put(key, ordering{number: uint32(len(list.all))})
+}
+
 // release notes one at an address, of the goroutine with a number.
 func (t *Translator) release(by, site uint32, kind Kind, addr uint64) uint32 {
-	t.put(trace.Record{Goroutine: by})
 	t.orders.releases = append(t.orders.releases, release{addr: addr, at: uint32(len(t.out)), by: by, site: site, kind: kind})
+	t.put(trace.Record{Goroutine: by})
 	return uint32(len(t.orders.releases))
 }
 
@@ -71,10 +78,10 @@ func (t *Translator) acquire(by, from, site uint32) {
 	r.last = by + 1
 	if r.id == 0 {
 		r.id = t.objectAt(trace.Object{Kind: trace.Order}, r.kind, r.site, r.addr)
-		q := &t.out[r.at-1]
-		q.Op, q.Object, q.Site = trace.Release, r.id, t.at(r.site)
+		q := &t.out[r.at]
+		q.Op, q.Object, q.Site = trace.Release, r.id, t.placeAt(r.site)
 	}
-	t.put(trace.Record{Op: trace.Acquire, Object: r.id, Goroutine: by, Site: t.at(site)})
+	t.put(trace.Record{Op: trace.Acquire, Object: r.id, Goroutine: by, Site: t.placeAt(site)})
 }
 
 // acquireAll has a goroutine come after all that counts at an address.
@@ -92,7 +99,7 @@ func (t *Translator) acquireAll(o *ordering, by, site uint32, addr uint64) {
 	}
 }
 
-// acquireFrom has a goroutine come after a release and those that count behind it, and answers how many there are.
+// acquireFrom has a goroutine come after a release and those that count after it, and answers how many there are.
 func (t *Translator) acquireFrom(from, by, site uint32) (n uint32) {
 	for ; from != 0; n++ {
 		if !t.orders.releases[from-1].over {
@@ -120,15 +127,15 @@ func (t *Translator) mergeAll(o *ordering, site uint32, addr uint64) {
 
 // add has a release count beside others, but for earlier ones of its goroutine. Who has acquired all others releases
 // these too.
-func (t *Translator) add(at, from uint32) {
-	o, r := &t.orders.all[at], &t.orders.releases[from-1]
+func (t *Translator) add(o *ordering, from uint32) {
+	r := &t.orders.releases[from-1]
 	if o.taken == r.by+1 && o.upTo == o.last {
 		o.only(from)
 		o.taken, o.upTo = r.by+1, from
 		return
 	}
 	o.added++
-	key := uint64(at)<<24 | uint64(r.by)
+	key := uint64(o.number)<<24 | uint64(r.by)
 	if earlier, isNew := t.orders.own.add(key, from-1); !isNew {
 		t.orders.releases[earlier].over = true
 		t.orders.own.set(key, from-1)
@@ -141,63 +148,52 @@ func (t *Translator) add(at, from uint32) {
 	o.last = from
 }
 
-// orderingAt is where what counts at an address is.
-func (t *Translator) orderingAt(key uint64, kind int) uint32 {
-	at, isNew := t.orders.byKey[kind].add(key, uint32(len(t.orders.all)))
-	if isNew {
-		t.orders.all = append(t.orders.all, ordering{})
-	}
-	return at
-}
-
 // order is what the library tells.
 func (t *Translator) order(s *step) {
-	by, site := t.number(s.by), s.site()
-	at := t.orderingAt(s.key, 0)
-	o := &t.orders.all[at]
-	switch s.op() {
-	case hooklog.Acquire:
+	by, site, o := t.number(s.by), s.site(), orderingAt(&t.orders.library, s.key)
+	if s.op() == hooklog.Acquire {
 		t.acquireAll(o, by, site, s.addr())
+		return
+	}
+	from := t.release(by, site, KindOrder, s.addr())
+	switch s.op() {
 	case hooklog.Release:
-		o.only(t.release(by, site, KindOrder, s.addr()))
+		o.only(from)
 	case hooklog.ReleaseMerge:
-		t.add(at, t.release(by, site, KindOrder, s.addr()))
+		t.add(o, from)
 	case hooklog.ReleaseAcquire:
-		from := t.release(by, site, KindOrder, s.addr())
 		t.acquireAll(o, by, site, s.addr())
 		o.only(from)
 	}
 }
 
-// atomic is an atomic operation, which comes after the last write of its address that it may find.
-func (t *Translator) atomic(s *step) {
-	by, site, op := t.number(s.by), s.site(), s.op()
-	o := &t.orders.all[t.orderingAt(s.key, 1)]
-	if op != hooklog.AtomicStore && o.first != 0 {
+// atomicStep is an atomic operation, which comes after the last write of its address that it may find. Where plain accesses to the
+// same memory may race with it, it is an access too.
+func (t *Translator) atomicStep(s *step) {
+	by, site, o := t.number(s.by), s.site(), orderingAt(&t.orders.atomics, s.key)
+	if s.op() != hooklog.AtomicStore && o.first != 0 {
 		t.acquire(by, o.first, site)
 	}
-	writes := op == hooklog.AtomicStore || op == hooklog.AtomicRMW
-	t.accessAtomically(s, by, writes)
-	if writes {
+	if w := t.wordAt(s.word()); w != nil && len(t.atomicUses) > 0 {
+		w.each(s.bytes(), func(at uint32) { t.accessAtomically(at, s) })
+	}
+	if s.writes() {
 		o.only(t.release(by, site, KindAtomic, s.addr()))
 	}
 }
 
-// accessAtomically notes the operation where plain accesses come to the same memory.
-func (t *Translator) accessAtomically(s *step, by uint32, writes bool) {
-	w, mask := t.wordOf(s)
-	if w == nil {
+// accessAtomically puts an atomic operation as an access of the variable that stands for its goroutine's.
+func (t *Translator) accessAtomically(at uint32, s *step) {
+	id := t.atomicOf(at, s.by)
+	if id == 0 {
 		return
 	}
-	op := trace.AtomicRead
-	if writes {
-		op = trace.AtomicWrite
+	r := t.record(trace.Read, id, s)
+	if r.OtherSite = s.site(); s.writes() {
+		r.Op = trace.Write
 	}
-	for part := w.starts & mask; part != 0; part &= part - 1 {
-		if v := &t.variables[w.first(part)]; v.id != 0 {
-			t.put(trace.Record{Op: op, Object: v.id, Goroutine: by, Site: t.at(s.site()), OtherSite: s.site()})
-		}
-	}
+	t.objects[id].By = r.Goroutine
+	t.put(r)
 }
 
 // edge is the wake of a goroutine that waits on a Cond.
@@ -207,12 +203,12 @@ func (t *Translator) edge(s *step) {
 }
 
 // finalizer has a goroutine come after all that others have done, since nobody has the objects any more that it finalizes.
-func (t *Translator) finalizer(at uint32) {
+func (t *Translator) finalizer(at uint32, seq uint64) {
 	t.who[at].finalize = false
 	by := t.number(at)
 	for i := range t.who {
 		a := &t.who[i]
-		if uint32(i) == at || a.segment != t.attempt && (a.ended || a.accesses != t.attempt || a.site == 0 && !a.isMain()) {
+		if uint32(i) == at || a.segment != t.attempt && (a.ended || a.accesses != t.attempt || a.started > seq) {
 			continue // it does nothing in the segment, or begins later
 		}
 		t.acquire(by, t.release(t.number(uint32(i)), 0, KindOrder, 0), 0)

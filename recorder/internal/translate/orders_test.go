@@ -104,7 +104,7 @@ func TestOneWaiter(t *testing.T) {
 	if n := strings.Count(text, "recvclosed main "); n < rounds*each || strings.Contains(text, " -\n") && strings.Contains(text, "go main g4001") {
 		t.Errorf("%d orders of %d", n, rounds*each)
 	}
-	if o := &p.f.orders.all[0]; o.cost > rounds*each {
+	if o := &p.f.orders.library.all[0]; o.cost > rounds*each {
 		t.Errorf("%d releases were looked at", o.cost)
 	}
 }

@@ -22,19 +22,21 @@ type segmentState struct {
 	memory
 	heap heap
 
+	firstGo uint64 // the go of another goroutine that does something: before it main is alone
+
 	objects  []trace.Object
 	unnamed  []unnamed
 	state    []trace.Record // what stood at the begin, as main makes it
 	starts   []trace.Record // of goroutines that were there
 	begun    []trace.Record // onces that were under way, the innermost last
 	out      []trace.Record // what happened; Nones have no place
-	behind   []int          // each step: so many of these
+	after    []int          // after each step there are so many of these
 	numbered []string       // the labels of goroutines that have a number
 	nextCase int
 
-	channels channels
-	locks    locks
-	onces    onces
+	channels keyed[channel]
+	locks    [2]keyed[lock] // Mutexes, RWMutexes
+	onces    keyed[once]
 	orders   orders
 }
 
@@ -43,23 +45,19 @@ func (s *segmentState) empty(records int) {
 	s.heap.empty()
 	s.objects, s.unnamed = append(s.objects[:0], trace.Object{}), s.unnamed[:0]
 	s.state, s.starts, s.begun, s.out = s.state[:0], s.starts[:0], s.begun[:0], s.out[:0]
-	s.behind, s.numbered, s.nextCase = s.behind[:0], s.numbered[:0], 0
+	s.after, s.numbered, s.nextCase = s.after[:0], s.numbered[:0], 0
 	s.channels.empty()
-	s.locks.empty()
+	s.locks[0].empty()
+	s.locks[1].empty()
 	s.onces.empty()
 	s.orders.empty()
 }
 
-// object numbers an object.
-func (s *segmentState) object(o trace.Object) uint32 {
-	s.objects = append(s.objects, o)
-	return uint32(len(s.objects) - 1)
-}
-
 // objectAt numbers an object that is used first at a site.
-func (t *Translator) objectAt(o trace.Object, kind Kind, site uint32, addr uint64) uint32 {
-	o.Site = t.at(site)
-	id := t.object(o)
+func (t *Translator) objectAt(o trace.Object, kind Kind, site uint32, addr uint64) (id uint32) {
+	o.Site = t.placeAt(site)
+	id = uint32(len(t.objects))
+	t.objects = append(t.objects, o)
 	t.unnamed = append(t.unnamed, unnamed{id: id, kind: kind, site: site, addr: addr})
 	return id
 }
@@ -82,10 +80,7 @@ func (t *Translator) IsReady() bool {
 	switch {
 	case n == 0 && t.held > 0:
 		return false
-	case count >= mostHeld*t.Records:
-		return true
-	}
-	if n > 0 && 2*(n+t.accessedBefore(t.store.first+uint64(n)-1)) >= count {
+	case count >= mostHeld*t.Records, n > 0 && 2*(n+t.accessedBefore(t.store.first+uint64(n)-1)) >= count:
 		return true
 	}
 	t.askAgain = count + t.Records/8
@@ -135,39 +130,44 @@ func (t *Translator) Segment(ended bool) *Segment {
 // fitting is how many steps have all their records in the trace. Where it has no whole step, what stood at the begin is too much
 // for it already.
 func (t *Translator) fitting(s *Segment) int {
-	front := len(t.state) + len(t.starts) + len(t.begun)
-	if s.Trace.End() == len(s.Trace.Records) {
-		return len(t.behind)
+	end := s.Trace.End()
+	if end == len(s.Trace.Records) {
+		return len(t.steps)
 	}
-	return sort.SearchInts(t.behind, s.Trace.End()-front+1)
+	return sort.SearchInts(t.after, end-len(t.state)-len(t.starts)+1)
 }
 
-// try makes a segment of the first n steps. all: the accesses behind the last one count too.
+// shortRest is how many steps a segment has after its last access.
+const shortRest = 1 << 16
+
+// try makes a segment of the first n steps. all: the accesses after the last one count too. Many steps after all accesses are left
+// out, since they order none.
 func (t *Translator) try(n int, all bool) *Segment {
 	t.attempt++
 	t.segmentState.empty(t.Records)
-	s := &Segment{Number: int(t.segments), Last: all}
 	t.follow(n)
 	t.gather(n, all || n == 0)
-	of := &trace.Recording{Variables: t.chooseVariables(n)}
-	t.sortAccesses(n)
-	for i := 0; i < n; i++ {
+	t.findVariables()
+	t.chooseVariables()
+	last := t.lineUp(n)
+	if n-last <= shortRest || t.Trace.All || t.Trace.Predict {
+		last = n
+	}
+	for i := 0; i < last; i++ {
 		t.putAccesses(i)
 		t.step(&t.steps[i], t.store.first+uint64(i))
-		t.behind = append(t.behind, len(t.out))
+		t.after = append(t.after, len(t.out))
 	}
-	t.putAccesses(n)
-	of.Records, of.Objects, of.Sites = t.withFront(), t.objects, t.places.table
-	s.Trace = trace.New(of, t.Trace)
-	return s
+	t.putAccesses(last)
+	of := &trace.Recording{Records: t.withFront(), Objects: t.objects, Sites: t.table, Variables: t.met, More: n - last}
+	return &Segment{Number: int(t.segments), Last: all, Trace: trace.New(of, t.Trace)}
 }
 
-// withFront puts in front of what happened what stood at the begin.
+// withFront puts before what happened what stood at the begin.
 func (t *Translator) withFront() []trace.Record {
 	for i := len(t.begun) - 1; i >= 0; i-- {
 		t.starts = append(t.starts, t.begun[i])
 	}
-	t.begun = t.begun[:0]
 	front := append(t.state, t.starts...)
 	n := len(t.out)
 	t.out = append(t.out, front...)
@@ -191,25 +191,24 @@ func (t *Translator) cut(s *Segment, n int) {
 	t.askAgain = 0
 }
 
-// carrySteps leaves the steps behind the first n, with their elements and cases.
+// carrySteps leaves the steps after the first n, with their elements and cases.
 func (t *store) carrySteps(n int) {
 	t.steps = t.steps[:copy(t.steps, t.steps[n:])]
 	t.first += uint64(n)
 	t.complete, t.held, t.atomics = 0, 0, 0
 	var elements []element
-	carry := func(s *step) {
-		op := s.op()
-		if op >= hooklog.AtomicLoad && op <= hooklog.AtomicFail {
+	for i := range t.steps {
+		s := &t.steps[i]
+		if s.what == 0 {
+			continue
+		}
+		t.held++
+		if isAtomic(s.op()) {
 			t.atomics++
 		}
-		if s.more != 0 && op != hooklog.Default && s.what != 0 {
+		if s.more != 0 && s.op() != hooklog.Default {
 			elements = append(elements, t.elements[s.more-1])
 			s.more = uint32(len(elements))
-		}
-	}
-	for i := range t.steps {
-		if carry(&t.steps[i]); t.steps[i].what != 0 {
-			t.held++
 		}
 	}
 	t.elements = append(t.elements[:0], elements...)

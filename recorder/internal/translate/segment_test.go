@@ -401,7 +401,7 @@ func TestWrappers(t *testing.T) {
 	p.frames[3] = []symbols.Frame{{Function: "main.f", File: "/home/p/main.go", Line: 12}}
 	p.w.Site(700, 1, 2)
 	p.w.Site(701, 1, 2, 3)
-	if n := p.f.at(700); p.f.table[n].Place != "main.go:9" {
+	if n := p.f.placeAt(700); p.f.table[n].Place != "main.go:9" {
 		t.Errorf("the place is %s", p.f.table[n].Place)
 	}
 	if got := p.f.Stack(700); len(got) != 2 || got[1].Function != "main.f.func1" {

@@ -18,17 +18,14 @@ type site struct {
 
 // places are the sites, and the table of what is told of them.
 type places struct {
-	table         []trace.Site
-	numbers       map[trace.Site]uint32
-	objectNames   map[objectName]uint32
-	variableNames table // by their hashes
-	namesAs       []nameAs
-	index         []uint32 // of the hooks' sites: where in the list they are
-	found         []site
-	sizes         map[uint32]uint64 // of types
-	frames        []symbols.Frame   // those of one site
-	traits        table             // of return addresses: where these begin in the list
-	listed        []trait           // for each return address how many calls it stands for, then these
+	table   []trace.Site
+	numbers map[trace.Site]uint32
+	names   map[nameKey]nameAs
+	index   []uint32 // of the hooks' sites: where in the list they are
+	found   []site
+	sizes   map[uint64]uint64  // of types
+	frames  []symbols.Frame    // those of one site
+	calls   map[uint64][]facts // of return addresses: those of the calls that they stand for
 }
 
 // mostSites is how many sites and names there are at most before a table begins anew.
@@ -36,19 +33,19 @@ const mostSites = 1 << 17
 
 func (p *places) empty() {
 	p.emptyTable()
-	p.sizes = map[uint32]uint64{}
+	p.sizes, p.calls = map[uint64]uint64{}, map[uint64][]facts{}
 	p.index = make([]uint32, 1<<hooklog.SiteBits)
 	p.found = []site{{facts: unknownStack}}
 }
 
 func (p *places) emptyTable() {
 	p.table = []trace.Site{{Place: "-"}}
-	p.numbers, p.objectNames, p.variableNames, p.namesAs = map[trace.Site]uint32{}, map[objectName]uint32{}, table{}, nil
+	p.numbers, p.names = map[trace.Site]uint32{}, map[nameKey]nameAs{}
 }
 
 // refresh begins a new table if this one has many sites, as of segments that are over.
 func (p *places) refresh() {
-	if len(p.table)+len(p.namesAs)+len(p.objectNames) < mostSites {
+	if len(p.table)+len(p.names) < mostSites {
 		return
 	}
 	p.emptyTable()
@@ -76,9 +73,9 @@ func (t *Translator) factsAt(id uint32) facts { return t.of(id).facts }
 func (t *Translator) framesAt(id uint32) []symbols.Frame {
 	t.frames = t.frames[:0]
 	for _, ret := range t.stacks.Stack(id) {
-		traits := t.traitsAt(ret)
+		calls := t.callsAt(ret)
 		for i, f := range t.symbols.Frames(ret) {
-			if i < len(traits) && traits[i]&callsHook == 0 {
+			if i < len(calls) && calls[i]&callsHook == 0 {
 				t.frames = append(t.frames, f)
 			}
 		}
@@ -139,8 +136,8 @@ func (p *places) numberOf(place, name string) uint32 {
 	return n
 }
 
-// at is the number of a site in the table, without a name.
-func (t *Translator) at(id uint32) uint32 {
+// placeAt is the number of a site in the table, without a name.
+func (t *Translator) placeAt(id uint32) uint32 {
 	s := t.of(id)
 	if s.at == 0 && id != 0 {
 		if f, ok := t.told(t.framesAt(id)); ok {

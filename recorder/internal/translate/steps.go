@@ -5,19 +5,28 @@ import (
 	"gorace.local/recorder/internal/trace"
 )
 
-// follow notes of each goroutine its last step in the segment, and whether it has ended.
+// follow notes of each goroutine its last step among the first n, and whether it has ended; of a new one, how it was started.
 func (t *Translator) follow(n int) {
 	for i := range t.who {
 		a := &t.who[i]
-		a.last, a.ended, a.start, a.open, a.finalize = a.before, a.gone, 0, 0, false
+		a.last, a.ended, a.started, a.start, a.open, a.finalize = a.before, a.gone, 0, 0, 0, false
+	}
+	if t.firstGo = 0; t.segments == 0 {
+		t.firstGo = never
 	}
 	for i := range t.steps[:n] {
 		s := &t.steps[i]
 		seq := t.store.first + uint64(i)
-		t.who[s.by].last = seq
+		by := &t.who[s.by]
+		by.last = seq
+		if by.started < t.firstGo && s.op() != hooklog.Finalizer && !t.isLeftOut(s) {
+			t.meets(by)
+		}
 		switch op := s.op(); op {
+		case hooklog.Go:
+			t.followGo(s, seq)
 		case hooklog.Exit:
-			t.who[s.by].ended = true
+			by.ended = true
 		case hooklog.Meet, hooklog.Edge:
 			t.who[s.other()].last = seq
 		case hooklog.Send, hooklog.Receive, hooklog.ReceiveClosed:
@@ -28,20 +37,43 @@ func (t *Translator) follow(n int) {
 	}
 }
 
+// followGo notes how a goroutine is started. One that the runtime starts for itself begins once it does something of the program's.
+func (t *Translator) followGo(s *step, seq uint64) {
+	child, f := &t.who[s.other()], t.factsAt(s.site())
+	if child.isMain() {
+		return
+	}
+	child.started, child.site, child.system, child.foreign = seq, s.site(), f&inRuntime != 0, f&inLibrary != 0
+	if !child.system && child.label == "" {
+		child.label = t.who[s.by].label
+	}
+}
+
+const never = 1<<64 - 1
+
+// meets notes that a goroutine does something: from its go on main isn't alone; if that isn't known, it never was.
+func (t *Translator) meets(a *actor) {
+	switch {
+	case a.isMain():
+	case a.site == 0 || a.system:
+		t.firstGo = 0
+	case a.started < t.firstGo:
+		t.firstGo = a.started
+	}
+}
+
 // isLeftOut reports whether a step isn't the program's.
 func (t *Translator) isLeftOut(s *step) bool {
 	op, f := s.op(), t.factsAt(s.site())
 	switch {
-	case op == hooklog.Go:
-		return f&ofRuntime != 0
 	case op == hooklog.Exit:
 		a := &t.who[s.by]
 		return a.isMain() || a.segment != t.attempt
-	case op >= hooklog.Send && op <= hooklog.CaseReceive:
-		return f&ofRuntime != 0
+	case op == hooklog.Go || op >= hooklog.Send && op <= hooklog.CaseReceive:
+		return f&inRuntime != 0
 	case op == hooklog.Lock || op == hooklog.Unlock:
 		return f&(inOnce|isPrivate) != 0
-	case op >= hooklog.AtomicLoad && op <= hooklog.AtomicFail:
+	case isAtomic(op):
 		return f&(inLock|isPrivate) != 0
 	case op >= hooklog.Acquire && op <= hooklog.ReleaseAcquire || op >= hooklog.Lock && op <= hooklog.OnceDone:
 		return f&isPrivate != 0
@@ -52,14 +84,11 @@ func (t *Translator) isLeftOut(s *step) bool {
 // step translates a step.
 func (t *Translator) step(s *step, seq uint64) {
 	if t.isLeftOut(s) {
-		if s.op() == hooklog.Go {
-			t.startSystem(s)
-		}
 		return
 	}
 	op := s.op()
 	if t.who[s.by].finalize && op != hooklog.Finalizer {
-		t.finalizer(s.by)
+		t.finalizer(s.by, seq)
 	}
 	switch {
 	case op == hooklog.Go:
@@ -69,12 +98,12 @@ func (t *Translator) step(s *step, seq uint64) {
 	case op == hooklog.Finalizer:
 		t.who[s.by].finalize = true
 		if t.who[s.by].accesses == t.attempt {
-			t.finalizer(s.by)
+			t.finalizer(s.by, seq)
 		}
 	case op >= hooklog.Acquire && op <= hooklog.ReleaseAcquire:
 		t.order(s)
-	case op >= hooklog.AtomicLoad && op <= hooklog.AtomicFail:
-		t.atomic(s)
+	case isAtomic(op):
+		t.atomicStep(s)
 	case op == hooklog.Default:
 		t.defaultOf(s, seq)
 	case op == hooklog.DefaultSend || op == hooklog.DefaultReceive:
@@ -96,11 +125,7 @@ func (t *Translator) start(s *step) {
 	if child.isMain() || child.segment == t.attempt {
 		return
 	}
-	child.site, child.foreign = s.site(), t.factsAt(s.site())&isLibrary != 0
-	if child.label == "" {
-		child.label = t.who[s.by].label
-	}
-	r := trace.Record{Site: t.at(s.site()), OtherSite: s.site()}
+	r := trace.Record{Site: t.placeAt(s.site()), OtherSite: s.site()}
 	if child.foreign {
 		r.Kind = uint8(trace.GoForeign)
 		child.start, child.starter = uint32(len(t.out)+1), s.by
@@ -113,13 +138,6 @@ func (t *Translator) start(s *step) {
 	t.put(r)
 }
 
-// startSystem is a go of the runtime's for itself. The goroutine begins once it does something of the program's.
-func (t *Translator) startSystem(s *step) {
-	if child := &t.who[s.other()]; !child.isMain() {
-		child.site, child.system, child.foreign = s.site(), true, true
-	}
-}
-
 // exit is the end of a goroutine. One that is in the function of a once, as what is known of it has it, has none.
 func (t *Translator) exit(s *step) {
 	if t.who[s.by].open == 0 {
@@ -127,7 +145,10 @@ func (t *Translator) exit(s *step) {
 	}
 }
 
-// note appends a record of a step by its goroutine.
-func (t *Translator) note(op trace.Op, object uint32, s *step) {
-	t.put(trace.Record{Op: op, Object: object, Goroutine: t.number(s.by), Site: t.at(s.site())})
+// record is one of a step by its goroutine.
+func (t *Translator) record(op trace.Op, object uint32, s *step) trace.Record {
+	return trace.Record{Op: op, Object: object, Goroutine: t.number(s.by), Site: t.placeAt(s.site())}
 }
+
+// note appends a record of a step by its goroutine.
+func (t *Translator) note(op trace.Op, object uint32, s *step) { t.put(t.record(op, object, s)) }

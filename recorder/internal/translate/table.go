@@ -1,12 +1,9 @@
 package translate
 
-// table numbers keys: an open-addressing hash table. Keys that differ in few of their low bits are neighbours in it, so that
-// what lies beside one another in the program's memory does so here.
+// table numbers keys: an open-addressing hash table.
 type table struct {
 	entries []entry
 	count   int
-	near    uint // so many low bits of a key choose among neighbours
-	skipped uint // below these there are bits that are spread, as a generation
 }
 
 type entry struct {
@@ -16,15 +13,14 @@ type entry struct {
 
 const fewestEntries = 1 << 8
 
-// neighbours answers a table for keys of which the bits from skipped on count, and of these the lowest near ones say which
-// neighbour is meant.
-func neighbours(skipped, near uint) table { return table{skipped: skipped, near: near} }
-
-func (t *table) slot(key uint64) int {
-	low := key >> t.skipped & (1<<t.near - 1)
-	h := (key ^ low<<t.skipped) * 0x9E3779B97F4A7C15
-	h ^= h >> 32
-	return int(h<<t.near|low) & (len(t.entries) - 1)
+// at is the entry of a key, or the free one that it would have.
+func (t *table) at(key uint64) *entry {
+	last := len(t.entries) - 1
+	for i := int(key * 0x9E3779B97F4A7C15 >> 32); ; i++ {
+		if e := &t.entries[i&last]; e.key == key || e.value == 0 {
+			return e
+		}
+	}
 }
 
 // get answers the number of a key.
@@ -32,15 +28,8 @@ func (t *table) get(key uint64) (number uint32, ok bool) {
 	if t.count == 0 {
 		return 0, false
 	}
-	for i := t.slot(key); ; i = (i + 1) & (len(t.entries) - 1) {
-		e := &t.entries[i]
-		if e.value == 0 {
-			return 0, false
-		}
-		if e.key == key {
-			return e.value - 1, true
-		}
-	}
+	e := t.at(key)
+	return e.value - 1, e.value != 0
 }
 
 // add answers the number of a key; if it has none it gets this one.
@@ -48,30 +37,19 @@ func (t *table) add(key uint64, number uint32) (is uint32, isNew bool) {
 	if 4*t.count >= 3*len(t.entries) {
 		t.grow()
 	}
-	for i := t.slot(key); ; i = (i + 1) & (len(t.entries) - 1) {
-		e := &t.entries[i]
-		if e.value == 0 {
-			*e = entry{key, number + 1}
-			t.count++
-			return number, true
-		}
-		if e.key == key {
-			return e.value - 1, false
-		}
+	e := t.at(key)
+	if e.value != 0 {
+		return e.value - 1, false
 	}
+	*e = entry{key, number + 1}
+	t.count++
+	return number, true
 }
 
 // set gives a key another number.
 func (t *table) set(key uint64, number uint32) {
-	if is, isNew := t.add(key, number); isNew || is == number {
-		return
-	}
-	for i := t.slot(key); ; i = (i + 1) & (len(t.entries) - 1) {
-		if e := &t.entries[i]; e.key == key {
-			e.value = number + 1
-			return
-		}
-	}
+	t.add(key, number)
+	t.at(key).value = number + 1
 }
 
 func (t *table) grow() {
@@ -82,25 +60,47 @@ func (t *table) grow() {
 	}
 	t.entries = make([]entry, n)
 	for _, e := range old {
-		if e.value == 0 {
-			continue
+		if e.value != 0 {
+			*t.at(e.key) = e
 		}
-		i := t.slot(e.key)
-		for t.entries[i].value != 0 {
-			i = (i + 1) & (n - 1)
-		}
-		t.entries[i] = e
 	}
 }
 
 // empty forgets all keys. Room for many is given back if few were there.
 func (t *table) empty() {
 	if t.count*16 < len(t.entries) && len(t.entries) > fewestEntries {
-		*t = table{near: t.near, skipped: t.skipped}
+		*t = table{}
 		return
 	}
 	for i := range t.entries {
 		t.entries[i] = entry{}
 	}
 	t.count = 0
+}
+
+// keyed are things of a segment by how the hooks tell of them: an address and its generation. In the memory of one of them another
+// one may begin.
+type keyed[T any] struct {
+	all []T
+	at  table
+}
+
+func (k *keyed[T]) empty() {
+	k.all = k.all[:0]
+	k.at.empty()
+}
+
+// get is the one with a key, nil if there is none.
+func (k *keyed[T]) get(key uint64) *T {
+	if at, ok := k.at.get(key); ok {
+		return &k.all[at]
+	}
+	return nil
+}
+
+// put has another one have a key.
+func (k *keyed[T]) put(key uint64, is T) *T {
+	k.at.set(key, uint32(len(k.all)))
+	k.all = append(k.all, is)
+	return &k.all[len(k.all)-1]
 }

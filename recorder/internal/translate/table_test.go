@@ -3,7 +3,7 @@ package translate
 import "testing"
 
 func TestTable(t *testing.T) {
-	tab := neighbours(16, 4)
+	tab := table{}
 	for i := uint64(0); i < 5000; i++ {
 		if n, isNew := tab.add(i<<16|i%3, uint32(i)); n != uint32(i) || !isNew {
 			t.Fatalf("%d is %d, %t", i, n, isNew)

@@ -29,6 +29,21 @@ type element struct {
 	waits uint32 // the site of who waits
 }
 
+// isAtomic reports whether a kind of steps are atomic operations.
+func isAtomic(op hooklog.Op) bool { return op >= hooklog.AtomicLoad && op <= hooklog.AtomicFail }
+
+// writes reports whether an atomic operation does.
+func (s *step) writes() bool { return s.op() == hooklog.AtomicStore || s.op() == hooklog.AtomicRMW }
+
+// word is the key of the word that an atomic operation is about, bytes are those of it.
+func (s *step) word() uint64 { return s.addr()>>3<<16 | s.key&0xffff }
+func (s *step) bytes() uint8 {
+	if s.aux() == 4 {
+		return 0xf << (s.addr() & 7)
+	}
+	return 0xff << (s.addr() & 7)
+}
+
 // access is a read or a write, as it was told.
 type access struct {
 	what uint64 // the kind, the mask, and above these the word's number
@@ -87,7 +102,7 @@ func (t *Translator) Take(goroutine, _ uint32, words []uint64) {
 			t.takeMoment(words)
 		case op == hooklog.Object:
 			n = 4
-			t.store.told[0] = append(t.store.told[0], heapObject{words[0] >> 16, words[1], words[3], uint32(words[2])})
+			t.store.told[0] = append(t.store.told[0], heapObject{Heap{words[0] >> 16, words[1], words[2] & (1<<32 - 1)}, words[3]})
 		case op == hooklog.Label:
 			n = t.label(by, words)
 		case op >= hooklog.Go && op != hooklog.Pad:
@@ -140,7 +155,7 @@ func (t *Translator) takeStep(op hooklog.Op, by uint32, words []uint64) (n int) 
 		about: uint32(words[0]>>8)&0xff | t.otherOf(op, uint32(words[2]>>24))<<8,
 		by:    by,
 	}
-	if op >= hooklog.AtomicLoad && op <= hooklog.AtomicFail {
+	if isAtomic(op) {
 		t.atomics++
 	}
 	if n == 6 {

@@ -66,9 +66,7 @@ func New(s Symbols, stacks Stacks, o Options) *Translator {
 	}
 	t := &Translator{Options: o, symbols: s, stacks: stacks}
 	t.store.first = 1
-	t.byID = neighbours(0, 4)
 	t.moments.base = 1
-	t.moments.others = neighbours(0, 4)
 	t.places.empty()
 	return t
 }

@@ -209,6 +209,9 @@ func (t *Translator) putAccess(u *use) {
 	t.eachPart(u, func(at uint32) {
 		v := &t.variables[at]
 		if v.id != 0 {
+			if v.is&passedOn != 0 && u.isWrite() && t.factsAt(m.site)&isPassing != 0 {
+				t.passOn(at, m.by)
+			}
 			r.Object = v.id
 			t.put(r)
 		}

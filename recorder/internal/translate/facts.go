@@ -9,7 +9,7 @@ import (
 // facts are what is known of a call from its function, and of a site from the calls on its stack.
 type facts uint16
 
-// Facts of both. Where a stack has one of the last five, the call that it is about has it.
+// Facts of both. Where a stack has one of the last six, the call that it is about has it.
 const (
 	inLibrary facts = 1 << iota // of Go's own source; of a stack: each call is
 	inRuntime                   // of package runtime; of a stack: each call is
@@ -19,6 +19,7 @@ const (
 	isPrivate                   // what it orders is nobody's business: private.go
 	isHidden                    // nor is what it accesses
 	isKin                       // it is in a package some functions of which have private orders, as where that sets up its memory
+	isPassing                   // what it writes is memory that private orders pass on
 
 	// Of calls alone.
 	inAtomics // of package sync/atomic
@@ -67,6 +68,8 @@ func (t *Translator) factsOfCall(f symbols.Frame) (is facts) {
 			is |= isKin
 		}
 		switch {
+		case p.has(rest) && begins(rest, p.passes, false):
+			is |= isPrivate | isPassing
 		case p.has(rest) && p.shares:
 			is |= isPrivate
 		case p.has(rest):
@@ -158,7 +161,7 @@ func (t *Translator) factsOf(stack []uint64) facts {
 		is |= inLock | inOnce
 	}
 	if any&isPrivate != 0 {
-		is |= beneath | firstPrivate(calls)&(isPrivate|isHidden)
+		is |= beneath | firstPrivate(calls)&(isPrivate|isHidden|isPassing)
 	}
 	return is
 }

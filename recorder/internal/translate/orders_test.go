@@ -350,3 +350,30 @@ write main value 1 main.go:4
 read g1 value 1 main.go:5
 `)
 }
+
+// What a Writer hands to another goroutine is read before package fmt passes that memory on.
+func TestMemoryThatIsPassedOn(t *testing.T) {
+	p := newProgram(t, Options{})
+	p.names[0x2000] = "line"
+	printing := func(line int) uint32 { return p.at(line, "fmt.(*buffer).writeString", "fmt.Fprint") }
+	reader, other := p.main.Go(2, p.at(1)), p.main.Go(3, p.at(2))
+	p.main.Write(0x2000, printing(3))
+	p.main.Do(hooklog.AtomicStore, 0x1000, p.at(4))
+	reader.Do(hooklog.AtomicLoad, 0x1000, p.at(5))
+	reader.Read(0x2000, p.at(6))
+	reader.Do(hooklog.Exit, 0, 0)
+	other.Write(0x2000, printing(7))
+	other.Do(hooklog.Exit, 0, 0)
+	p.want(`
+gotrace 2
+goroutine g1
+var line
+chan atomic_order 0
+go main g1 main.go:1
+write main line 1 main.go:3
+close main atomic_order main.go:4
+recvclosed g1 atomic_order main.go:5
+read g1 line 1 main.go:6
+exit g1 -
+`)
+}

@@ -11,12 +11,13 @@ type privacy struct {
 	whole     bool     // these are whole names
 	helped    bool     // what other functions of the package do is for those that call them
 	shares    bool     // the functions also read and write memory that they are given; else no access of theirs is told
+	passes    []string // of these, how those begin that write what the package passes on from one goroutine to another
 }
 
 // privacies are the orders that nobody promises.
 var privacies = []privacy{
-	// The pool of printers passes memory on from one call to another.
-	{pkg: "fmt", shares: true},
+	// The pool of printers passes memory on from one call to another. A Writer may hand it to others up to its return.
+	{pkg: "fmt", shares: true, passes: []string{"(*buffer)", "(*fmt)", "(*pp)"}},
 
 	// Sorting the keys of a map that is printed is a part of that.
 	{pkg: "internal/fmtsort", shares: true},
@@ -64,12 +65,14 @@ var private = func() map[string]*privacy {
 
 // has reports whether a function is one of these, by its name in its package.
 func (p *privacy) has(name string) bool {
-	if len(p.functions) == 0 {
-		return true
-	}
-	for _, begin := range p.functions {
+	return len(p.functions) == 0 || begins(name, p.functions, p.whole)
+}
+
+// begins reports whether a name begins with one of these, or, if they are whole names, is one or in one.
+func begins(name string, with []string, whole bool) bool {
+	for _, begin := range with {
 		rest := strings.TrimPrefix(name, begin)
-		if rest != name && (!p.whole || rest == "" || rest[0] == '.') {
+		if rest != name && (!whole || rest == "" || rest[0] == '.') {
 			return true
 		}
 	}

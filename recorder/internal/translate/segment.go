@@ -159,6 +159,9 @@ func (t *Translator) try(n int, all bool) *Segment {
 		t.after = append(t.after, len(t.out))
 	}
 	t.putAccesses(last)
+	if t.hasPassed && !t.Trace.All {
+		t.dropAlone()
+	}
 	of := &trace.Recording{Records: t.withFront(), Objects: t.objects, Sites: t.table, Variables: t.met, More: n - last}
 	return &Segment{Number: int(t.segments), Last: all, Trace: trace.New(of, t.Trace)}
 }

@@ -50,6 +50,7 @@ type variable struct {
 	atomicBy uint32    // the same of atomic operations
 	uses     [3]uint32 // one more than where an access is: the first write, the first read, and the last
 	id       uint32    // its number if plain accesses may race; of several words that are one variable, the same
+	holder   uint32    // one more than the goroutine that private orders have passed the memory on to
 	is       traits
 }
 
@@ -71,6 +72,7 @@ const (
 	usedOutside // so, and no private function has called for it
 	usedAsMap
 	racesAtomically // plain accesses may race with atomic operations of others
+	passedOn        // private orders may pass it on from one goroutine to another
 )
 
 // memory is what a segment's accesses are about.
@@ -86,6 +88,7 @@ type memory struct {
 	atomicUses map[uint32][]atomicUse // of variables
 	values     table                  // of several words, of which the first isn't kept: which variable stands for it
 	refs       []uint32               // of each word that an access is about, in their order: its place in the list
+	hasPassed  bool                   // private orders have passed some memory on
 	lines      []uint32               // of each number of steps: one more than the first access after so many
 }
 
@@ -95,7 +98,7 @@ func (m *memory) empty(records int) {
 		m.uses, m.blocks, m.words, m.refs = nil, nil, nil, nil
 	}
 	m.uses, m.blocks, m.words, m.variables, m.refs = m.uses[:0], m.blocks[:0], m.words[:0], m.variables[:0], m.refs[:0]
-	m.met, m.atomic, m.atomicUses = 0, m.atomic[:0], map[uint32][]atomicUse{}
+	m.met, m.atomic, m.atomicUses, m.hasPassed = 0, m.atomic[:0], map[uint32][]atomicUse{}, false
 	m.byBlock.empty()
 	m.values.empty()
 }
@@ -201,6 +204,9 @@ func (v *variable) use(write bool, f facts, number uint32) {
 	}
 	if f&ofMap != 0 {
 		v.is |= usedAsMap
+	}
+	if write && f&isPassing != 0 {
+		v.is |= passedOn
 	}
 }
 
@@ -332,6 +338,45 @@ func (t *Translator) variable(w *word, at uint32) (id uint32) {
 	n := &t.unnamed[len(t.unnamed)-1]
 	n.variable, n.gen = at, uint16(w.key)
 	return id
+}
+
+// passOn has memory that private orders pass on to a goroutine, which writes there, be another variable from now on: what those
+// did who had it before comes before.
+func (t *Translator) passOn(at, by uint32) {
+	v := &t.variables[at]
+	if v.holder != 0 && v.holder != by+1 {
+		t.hasPassed = true
+		before := t.unnamed[v.id-1]
+		v.id = t.objectAt(trace.Object{Kind: t.objects[v.id].Kind}, kindVariable, 0, before.addr)
+		n := &t.unnamed[len(t.unnamed)-1]
+		n.variable, n.gen = before.variable, before.gen
+	}
+	v.holder = by + 1
+}
+
+// dropAlone leaves out what one goroutine alone did with memory while it had that.
+func (t *Translator) dropAlone() {
+	const many = 1<<32 - 1
+	users := make([]uint32, len(t.objects)) // one more than who uses it
+	each := func(f func(r *trace.Record)) {
+		for i := range t.out {
+			if r := &t.out[i]; r.Op == trace.Read || r.Op == trace.Write {
+				f(r)
+			}
+		}
+	}
+	each(func(r *trace.Record) {
+		if u := &users[r.Object]; *u == 0 {
+			*u = r.Goroutine + 1
+		} else if *u != r.Goroutine+1 {
+			*u = many
+		}
+	})
+	each(func(r *trace.Record) {
+		if t.variables[t.unnamed[r.Object-1].variable].is&passedOn != 0 && users[r.Object] != many {
+			r.Op = trace.None
+		}
+	})
 }
 
 // atomicOf is the variable for a goroutine's atomic operations on a variable, 0 if there is none.

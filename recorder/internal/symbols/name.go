@@ -23,7 +23,7 @@ type Object struct {
 // Name is what an access is about.
 type Name struct {
 	Word  string // for a trace: Account_mu, xs_elem, p_at; or ""
-	Begin uint64 // the address of a package variable, or of the part of one; it may be in front of the access
+	Begin uint64 // the address of a package variable, or of the part of one that is one variable; it may be in front of the access
 	rank  int    // of the names of several accesses to one variable the one with the most counts
 	isOwn bool   // it is that of a variable of the function
 }
@@ -78,8 +78,12 @@ func (p *Program) globalAt(addr uint64) (Name, bool) {
 		return Name{}, false
 	}
 	t, _ := p.variable(pkg, name)
-	steps, begin, _ := descend(t, at-o.Value)
-	return Name{Word: asWord(wordOf(name, steps)), Begin: o.Value + p.moved + begin, rank: exact}, true
+	steps, offset, typ := descend(t, at-o.Value)
+	begin := o.Value + p.moved + offset
+	if typ == nil || typ.isOpaque() {
+		begin = addr // two of its methods may use different words beside one another
+	}
+	return Name{Word: asWord(wordOf(name, steps)), Begin: begin, rank: exact}, true
 }
 
 // nameInPackage is a symbol without its package, or "" if it has none.

@@ -134,6 +134,7 @@ type recThread struct {
 	ignore                    uint32
 	waits                     uint32 // the site at which it waits
 	stint                     uint64
+	renewed                   uint64 // the last step after which what it repeats is told anew
 	random                    uint32
 	tags                      uint32 // twice the tag of the goroutine since its last step that releases
 	told                      uint32 // what the upper bits of a shared cell's r are in this segment

@@ -28,6 +28,10 @@ const recReleasing uint64 = 1<<logGo | 1<<logExit | 1<<logRelease | 1<<logReleas
 	1<<logAtomicStore | 1<<logAtomicRMW | 1<<logSend | 1<<logReceive | 1<<logMeet | 1<<logClose |
 	1<<logUnlock | 1<<logRUnlock | 1<<logWUnlock | 1<<logOnceBegin | 1<<logOnceEnd
 
+// recOften is after how many steps of all goroutines any step of one has it tell anew what it repeats: the segment in which it was
+// told may be over.
+const recOften = 1 << 12
+
 // recDo writes a step of the running goroutine.
 func recDo(t *recThread, s *recStepOf) {
 	recCall(abi.FuncPCABIInternal(recDoHere), t, uintptr(unsafe.Pointer(s)), 0, 0, 0)
@@ -65,8 +69,10 @@ func recStep(t *recThread, s *recStepOf) uint64 {
 		recWord(at, 40, s.last)
 	}
 	recWord(at, 0, uint64(s.op)|uint64(s.aux)<<8|uint64(s.addr)<<16)
-	releases := s.op == logEdge || recReleasing>>s.op&1 != 0
-	recPass(t, releases)
+	releases := s.op == logEdge || recReleasing>>s.op&1 != 0 || seq-t.renewed > recOften
+	if recPass(t, releases); releases {
+		t.renewed = seq
+	}
 	if s.with != nil {
 		recPass(s.with, releases)
 	}

@@ -157,19 +157,25 @@ func tellCut(w io.Writer, events int, cut string) {
 func (r *run) judgeChildren() error {
 	path := r.reader.Path() + "."
 	logs, _ := filepath.Glob(path + "[1-9]*")
+	judged := 0
 	for _, log := range logs {
-		if err := r.judgeChild(log, strings.TrimPrefix(log, path)); err != nil {
+		isOwn, err := r.judgeChild(log, strings.TrimPrefix(log, path))
+		if err != nil {
 			return fmt.Errorf("process %s, which the program started: %w", strings.TrimPrefix(log, path), err)
 		}
+		if isOwn {
+			judged++
+		}
 	}
-	if len(logs) > 0 {
-		fmt.Fprintf(r.notes, "gorec: processes that the program started, which are judged too: %d\n", len(logs))
+	if judged > 0 {
+		fmt.Fprintf(r.notes, "gorec: processes that the program started, which are judged too: %d\n", judged)
 	}
 	return nil
 }
 
-// judgeChild has such a log judged. What is said of it is told unless it is clean, or its races were told.
-func (r *run) judgeChild(path, process string) error {
+// judgeChild has such a log judged, unless it is another program's. What is said of it is told unless it is clean, or its races were
+// told.
+func (r *run) judgeChild(path, process string) (isOwn bool, err error) {
 	if r.log == "" {
 		defer os.Remove(path)
 	}
@@ -181,14 +187,18 @@ func (r *run) judgeChild(path, process string) error {
 	}
 	child, err := s.newRun(hooklog.Open(path))
 	if err != nil {
-		return err
+		return false, err
 	}
 	defer child.close()
+	if h, own := child.reader.Header(), r.reader.Header(); h.Text != 0 && h.Types-h.Text != own.Types-own.Text {
+		fmt.Fprintf(r.notes, "gorec: process %s, which the program started, is of another program, and isn't judged\n", process)
+		return false, nil
+	}
 	child.told = r.told
 	ended := make(chan struct{})
 	close(ended)
 	if err := child.follow(ended); err != nil {
-		return err
+		return true, err
 	}
 	if child.Status != 0 && (child.Status != racing || len(child.reports) > 0) {
 		child.keep()
@@ -200,5 +210,5 @@ func (r *run) judgeChild(path, process string) error {
 	r.Races += child.Races
 	r.Predicted += child.Predicted
 	r.NotSearched += child.NotSearched
-	return nil
+	return true, nil
 }

@@ -108,6 +108,24 @@ func TestChildren(t *testing.T) {
 	}
 }
 
+// TestOtherChildren: another recorded program that a program starts isn't judged by the file of the one that has started it.
+func TestOtherChildren(t *testing.T) {
+	t.Parallel()
+	dir := t.TempDir()
+	writeFiles(t, dir, map[string]string{
+		"go.mod":  "module example.com/starter\n\ngo 1.19\n",
+		"main.go": "package main\n\nimport (\n\t\"os\"\n\t\"os/exec\"\n)\n\nfunc main() { exec.Command(os.Args[1]).Run() }\n",
+		"started/main.go": "package main\n\nfunc main() {\n\tn, done := 0, make(chan bool)\n" +
+			"\tgo func() { n++; close(done) }()\n\tn++\n\t<-done\n}\n",
+	})
+	programs := filepath.Join(dir, "built") + string(filepath.Separator)
+	build(t, dir, programs, "./...")
+	out, errs, status := runIn(t, dir, "exec", "-gorace", finder(t, "n"), programs+"starter", programs+"started")
+	if status != 0 || !strings.Contains(errs, ", which the program started, is of another program, and isn't judged\n") {
+		t.Errorf("status %d\n%s%s", status, out, errs)
+	}
+}
+
 // TestTrace: a program that is run elsewhere leaves a log, of which a trace is made.
 func TestTrace(t *testing.T) {
 	t.Parallel()

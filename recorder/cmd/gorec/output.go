@@ -4,40 +4,68 @@ import (
 	"bufio"
 	"bytes"
 	"encoding/json"
+	"errors"
 	"io"
 	"os"
 	"os/exec"
 	"sync"
+	"sync/atomic"
 	"time"
 
 	"gorace.local/recorder/internal/report"
 )
 
-// piped runs a program, of which the output goes on line by line; its errors too, if nothing else takes them. What the program
-// started may keep the pipe open: it isn't waited for.
+// piped runs a program, of which the output goes on line by line; its errors too, if nothing else takes them.
 func piped(cmd *exec.Cmd, to lineWriter, run func() error) error {
 	r, w, err := os.Pipe()
 	if err != nil {
 		return err
 	}
+	from := &pipeEnd{File: r}
 	done := make(chan struct{})
 	go func() {
 		defer close(done)
-		to.readFrom(r)
-		io.Copy(io.Discard, r) // where nothing can be written any more, the program needn't wait
+		to.readFrom(from)
+		io.Copy(io.Discard, from) // where nothing can be written any more, the program needn't wait
 	}()
 	if cmd.Stdout = w; cmd.Stderr == nil {
 		cmd.Stderr = w
 	}
 	err = run()
 	w.Close()
-	select {
-	case <-done:
-	case <-time.After(2 * time.Second):
-	}
-	r.Close()
+	from.end()
 	<-done
+	r.Close()
 	return err
+}
+
+// A pipeEnd reads what a program writes. What the program has started may keep the pipe open: once the program has ended, it isn't
+// waited for.
+type pipeEnd struct {
+	*os.File
+	ended   atomic.Bool
+	isQuiet bool
+}
+
+// longestQuiet is how long an ended program's pipe may have nothing to read.
+const longestQuiet = 2 * time.Second
+
+func (p *pipeEnd) end() {
+	p.ended.Store(true)
+	p.SetReadDeadline(time.Now().Add(longestQuiet)) // of a Read that waits
+}
+
+func (p *pipeEnd) Read(b []byte) (n int, err error) {
+	if p.isQuiet {
+		return 0, io.EOF
+	}
+	if p.ended.Load() {
+		p.SetReadDeadline(time.Now().Add(longestQuiet))
+	}
+	if n, err = p.File.Read(b); errors.Is(err, os.ErrDeadlineExceeded) {
+		p.isQuiet, err = true, io.EOF
+	}
+	return n, err
 }
 
 // A lineWriter takes lines.

@@ -7,6 +7,7 @@ import (
 	"strings"
 	"testing"
 	"testing/iotest"
+	"time"
 )
 
 // TestLastLine: a report begins a line, also after output that ends within one.
@@ -32,6 +33,21 @@ func TestLines(t *testing.T) {
 	fmt.Fprint(to, "e\nf\n")
 	if want := []string{"ab\n", "c\n", "\n", long, "yz\n", "d\n", "e\n", "f\n"}; fmt.Sprint(got) != fmt.Sprint(want) {
 		t.Errorf("got %.200q", got)
+	}
+}
+
+// TestLateReader: what a program has written comes whole, however late it is taken, and what it has started isn't waited for.
+func TestLateReader(t *testing.T) {
+	lines := 0
+	cmd := exec.Command("sh", "-c", "seq 1000; sleep 60 &")
+	err := piped(cmd, func([]byte) error {
+		if lines++; lines == 1 {
+			time.Sleep(longestQuiet + longestQuiet/10)
+		}
+		return nil
+	}, cmd.Run)
+	if lines != 1000 || err != nil {
+		t.Errorf("%d lines, %v", lines, err)
 	}
 }
 

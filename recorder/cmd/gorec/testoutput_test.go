@@ -37,6 +37,8 @@ func TestOutputOfTests(t *testing.T) {
 			"--- FAIL: TestB (0.00s)\n    --- FAIL: TestB/c (0.00s)\n    " + told + "FAIL\n"},
 		{"-test.v=true", "--- PASS: TestA (0.00s)\nPASS\n", racing, racesIn("TestA"), "--- PASS: TestA (0.00s)\n",
 			"=== RUN   TestA\n" + told + "--- FAIL: TestA (0.00s)\nFAIL\n"},
+		{"-test.v=true", "PASS\n", racing, racesIn("TestB/c"), "",
+			"=== RUN   TestB\n=== RUN   TestB/c\n    " + told + "--- FAIL: TestB (0.00s)\n    --- FAIL: TestB/c (0.00s)\nFAIL\n"},
 		{"-test.v=test2json", "\x16PASS\n", racing, racesIn("TestA"), "", "\x16=== RUN   TestA\n" + told + "\x16--- FAIL: TestA (0.00s)\n\x16FAIL\n"},
 		{"", "--- FAIL: TestA (0.00s)\nFAIL\n", racing, racesIn("TestA"), "--- FAIL: TestA (0.00s)\nFAIL\n", ""},
 	} {

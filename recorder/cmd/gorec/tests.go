@@ -286,12 +286,15 @@ func (t *testOutput) tellTests(reports []*report.Report) {
 		}
 	}
 	sort.Strings(names)
+	if t.tells { // all begin before one ends, since what is told of a test ends with the one above it
+		for _, name := range names {
+			fmt.Fprintf(t.to, "%s=== RUN   %s\n%s", t.mark, name, races[name])
+		}
+	}
 	for _, name := range names {
-		end := fmt.Sprintf("%s%s--- FAIL: %s (0.00s)\n", t.mark, indentOf(name), name)
-		if t.tells {
-			fmt.Fprintf(t.to, "%s=== RUN   %s\n%s%s", t.mark, name, races[name], end)
-		} else {
-			fmt.Fprint(t.to, end, races[name])
+		fmt.Fprintf(t.to, "%s%s--- FAIL: %s (0.00s)\n", t.mark, indentOf(name), name)
+		if !t.tells {
+			fmt.Fprint(t.to, races[name])
 		}
 	}
 }

@@ -158,7 +158,7 @@ func (t *Translator) factsOf(stack []uint64) facts {
 		is |= isOwn
 	}
 	if first(inAtomics|inRuntime|inSync)&inOnce != 0 {
-		is |= inLock | inOnce
+		is |= inLock
 	}
 	if any&isPrivate != 0 {
 		is |= beneath | firstPrivate(calls)&(isPrivate|isHidden|isPassing)

@@ -168,11 +168,20 @@ func (t *Translator) order(s *step) {
 }
 
 // atomicStep is an atomic operation, which comes after the last write of its address that it may find. Where plain accesses to the
-// same memory may race with it, it is an access too.
+// same memory may race with it, it is an access too. Nothing comes after one whose orders are private, but it comes after others: a
+// Write after the Close that ends it.
 func (t *Translator) atomicStep(s *step) {
-	by, site, o := t.number(s.by), s.site(), orderingAt(&t.orders.atomics, s.key)
+	o := orderingAt(&t.orders.atomics, s.key)
+	isPrivate := t.factsAt(s.site())&isPrivate != 0
+	if isPrivate && o.first == 0 {
+		return
+	}
+	by, site := t.number(s.by), s.site()
 	if s.op() != hooklog.AtomicStore && o.first != 0 {
 		t.acquire(by, o.first, site)
+	}
+	if isPrivate {
+		return
 	}
 	if w := t.wordAt(s.word()); w != nil && len(t.atomicUses) > 0 {
 		w.each(s.bytes(), func(at uint32) { t.accessAtomically(at, s) })

@@ -33,8 +33,8 @@ var privacies = []privacy{
 	// for one another to write their names; all note in one map that they run.
 	{pkg: "testing", functions: []string{"(*testContext)", "(*testState)", "(*chattyPrinter)", "tRunner", "(*T).Parallel"}},
 
-	// Writers of one file wait for one another, as for os.Stdout. (A Close comes before what it ends, so it counts; but the last
-	// Write may be what closes the file.)
+	// Writers of one file wait for one another, as for os.Stdout. What closes a file or sets a deadline comes before a Write that it
+	// ends: private operations come after others.
 	{pkg: "internal/poll", functions: []string{"(*FD).Write", "(*FD).Pwrite"}, whole: true, helped: true},
 
 	// Package runtime has locks of its own, as of types that reflect makes and of metrics.

@@ -71,10 +71,8 @@ func (t *Translator) isLeftOut(s *step) bool {
 		return a.isMain() || a.segment != t.attempt
 	case op == hooklog.Go || op >= hooklog.Send && op <= hooklog.CaseReceive:
 		return f&inRuntime != 0
-	case op == hooklog.Lock || op == hooklog.Unlock:
-		return f&(inOnce|isPrivate) != 0
 	case isAtomic(op):
-		return f&(inLock|isPrivate) != 0
+		return f&inLock != 0
 	case op >= hooklog.Acquire && op <= hooklog.ReleaseAcquire || op >= hooklog.Lock && op <= hooklog.OnceDone:
 		return f&isPrivate != 0
 	}

@@ -165,3 +165,42 @@ func TestM(t *testing.T) {
 	n := 0
 	both(func() { lock.Call(nil); n++; unlock.Call(nil) }, func() { mu.Lock(); n++; mu.Unlock() })
 }
+
+// A lock is released by a Once, so that it is released once only.
+func TestOnceUnlock(t *testing.T) {
+	var mu sync.Mutex
+	n := 0
+	var wg sync.WaitGroup
+	for i := 0; i < 4; i++ {
+		wg.Add(1)
+		go func() {
+			defer wg.Done()
+			var once sync.Once
+			mu.Lock()
+			defer once.Do(mu.Unlock)
+			n++
+		}()
+	}
+	wg.Wait()
+	if n != 4 {
+		t.Fatal(n)
+	}
+}
+
+// The lock is taken by a Once.
+func TestOnceLock(t *testing.T) {
+	var mu sync.Mutex
+	n := 0
+	var wg sync.WaitGroup
+	for i := 0; i < 4; i++ {
+		wg.Add(1)
+		go func() {
+			defer wg.Done()
+			var once sync.Once
+			once.Do(mu.Lock)
+			n++
+			mu.Unlock()
+		}()
+	}
+	wg.Wait()
+}

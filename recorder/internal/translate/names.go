@@ -1,7 +1,6 @@
 package translate
 
 import (
-	"math/bits"
 	"strings"
 
 	"gorace.local/recorder/internal/symbols"
@@ -41,7 +40,6 @@ type Heap struct {
 // Use is a use of a variable.
 type Use struct {
 	Write  bool
-	Bytes  int             // that are used from the variable's address on, 0 if that isn't told
 	Frames []symbols.Frame // the innermost first
 }
 
@@ -254,15 +252,7 @@ func (t *Translator) usesOf(v *variable) []Use {
 		}
 		u := &t.uses[i-1]
 		frames := append([]symbols.Frame(nil), t.framesAt(t.moments.before[u.at].site)...)
-		uses = append(uses, Use{u.isWrite(), bytesOf(u.mask()), frames})
+		uses = append(uses, Use{u.isWrite(), frames})
 	}
 	return uses
-}
-
-// bytesOf is how many bytes a mask is about, or 0 for a single one, which stands for what begins there.
-func bytesOf(mask uint8) int {
-	if n := bits.OnesCount8(mask); n > 1 {
-		return n
-	}
-	return 0
 }

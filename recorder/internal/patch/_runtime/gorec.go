@@ -52,6 +52,7 @@ var recData uintptr
 // recLists are under their lock.
 var recLists struct {
 	lock    uint32
+	boot    uint32  // the lock of rec.boot, by which several threads may start goroutines
 	threads uint32  // slots that were used so far
 	freed   uintptr // *recThread, of goroutines that have ended
 	rest    uintptr // [recMostRest]recRest: chunks that ended goroutines left

@@ -420,6 +420,7 @@ func recMomentOf(t *recThread, in *recInner) *recMoment {
 	id := t.moment
 	t.moment++
 	at := recMomentAt(id)
+	recWord(at, 0, 0) // who reads it meanwhile sees that it changes
 	recWord(at, 8, atomic.Load64(&h.Seq)|uint64(t.me-1)<<40)
 	recWord(at, 0, uint64(logMoment)|uint64(m.site)<<8|uint64(id)<<32)
 	m.stamp, m.run.id = t.stamp, id
@@ -439,19 +440,21 @@ func recMomentAt(id uint32) uintptr { return rec.moments + uintptr(id%recMoments
 // nobody knows it any more.
 func recTellMoment(t *recThread, id uint32) bool {
 	from := recMomentAt(id)
-	first := *(*uint64)(unsafe.Pointer(from))
-	if uint32(first>>32) != id {
-		return false
+	slot := (*uint64)(unsafe.Pointer(from))
+	first := atomic.Load64(slot)
+	second := atomic.Load64((*uint64)(unsafe.Pointer(from + 8)))
+	if uint32(first>>32) != id || uint32(atomic.Load64(slot)>>32) != id {
+		return false // a later moment has its place, or takes it just now
 	}
 	if first&0xff == 0 {
 		return true
 	}
-	at := recPut(t, 1)
+	at := recPut(t, 1) // this may sleep
 	if at == 0 {
 		return false
 	}
-	recWord(at, 8, *(*uint64)(unsafe.Pointer(from + 8)))
+	recWord(at, 8, second)
 	recWord(at, 0, first)
-	recWord(from, 0, first&^0xff)
+	atomic.Cas64(slot, first, first&^0xff)
 	return true
 }

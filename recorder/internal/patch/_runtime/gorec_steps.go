@@ -210,7 +210,8 @@ func rec_go_start(parent, child, pc, _ uintptr) {
 	if rec.log == 0 {
 		return
 	}
-	if parent == 0 {
+	isBoot := parent == 0
+	if isBoot {
 		parent = rec.boot
 	}
 	p, t := (*recThread)(unsafe.Pointer(parent)), recNewThread()
@@ -219,10 +220,17 @@ func rec_go_start(parent, child, pc, _ uintptr) {
 		return
 	}
 	*at = uintptr(unsafe.Pointer(t))
-	if recOn {
-		in := recInner{n: 1, key: recMix(recCalls(p), pc) | 1}
-		in.pcs[0] = pc
-		recStep(p, &recStepOf{op: logGo, site: recSite(p, &in), other: t.me - 1})
+	if !recOn {
+		return
+	}
+	if isBoot {
+		recLock(&recLists.boot)
+	}
+	in := recInner{n: 1, key: recMix(recCalls(p), pc) | 1}
+	in.pcs[0] = pc
+	recStep(p, &recStepOf{op: logGo, site: recSite(p, &in), other: t.me - 1})
+	if isBoot {
+		recUnlock(&recLists.boot)
 	}
 }
 

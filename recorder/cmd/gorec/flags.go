@@ -47,7 +47,7 @@ func (o *options) define(command string, flags *flag.FlagSet) {
 	}
 	flags.StringVar(&o.kept, "o", "",
 		"keep the trace in this `file` or folder; of several packages, those that aren't clean, in this folder")
-	flags.StringVar(&o.log, "log", "", "keep the log, of up to 749 MB, in this `file`")
+	flags.StringVar(&o.log, "log", "", "keep the log, of up to 745 MB, in this `file`")
 	flags.StringVar(&o.gorace, "gorace", "", "the `command` that judges: a file, or words between blanks")
 	flags.StringVar(&o.seed, "seed", "", "a `number` up to 4,294,967,295, which sets where goroutines yield; 0: nowhere")
 	flags.IntVar(&o.format, "format", 0, "the `version` of the trace, 1 or 2; 2 has words for TryLock and TryRLock")

@@ -88,7 +88,7 @@ func flagsWith(hooks *patch.Set, goflags string, user []string) ([]string, error
 	return append(flags, others...), nil
 }
 
-// goCommand is the command go, with gorec's flags and the user's in front of other words.
+// goCommand is the command go, with gorec's flags and the user's before other words.
 func (s *session) goCommand(command string, others ...string) *exec.Cmd {
 	cmd := exec.Command("go", append(append([]string{command}, s.goFlags...), others...)...)
 	cmd.Stdout, cmd.Stderr, cmd.Env = os.Stdout, os.Stderr, s.goEnv

@@ -168,7 +168,7 @@ func (w *words) defineGoFlags(topics []string, sets ...*flag.FlagSet) {
 	}
 }
 
-// parseTest takes apart the words of go test: flags, packages, and flags again. gorec's own flags stand in front of the packages
+// parseTest takes apart the words of go test: flags, packages, and flags again. gorec's own flags stand before the packages
 // alone. What no flag of go test is belongs to the tests, as does all after a word that stands there.
 func (w *words) parseTest(gos *flag.FlagSet, args []string) error {
 	set, after, mayBeValue := w.own, false, false

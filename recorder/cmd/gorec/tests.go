@@ -211,7 +211,7 @@ func (s *session) leave(v *verdict) error {
 type testOutput struct {
 	to     io.Writer
 	tells  bool   // each test that begins is told, as by -v
-	mark   string // in front of the lines of package testing, as go test -json has them
+	mark   string // before the lines of package testing, as go test -json has them
 	held   []byte
 	failed map[string]bool // tests that are told to have failed
 }
@@ -299,5 +299,5 @@ func (t *testOutput) tellTests(reports []*report.Report) {
 	}
 }
 
-// indentOf is what package testing puts in front of lines on a subtest.
+// indentOf is what package testing puts before lines on a subtest.
 func indentOf(name string) string { return strings.Repeat("    ", strings.Count(name, "/")) }

@@ -52,7 +52,7 @@ func TestWordsOfRun(t *testing.T) {
 	}
 }
 
-// TestWordsOfTest: of the words of go test gorec takes its own flags in front of the packages, and go test's wherever they stand.
+// TestWordsOfTest: of the words of go test gorec takes its own flags before the packages, and go test's wherever they stand.
 func TestWordsOfTest(t *testing.T) {
 	for _, c := range []struct{ words, want string }{
 		{"", " |  | "},

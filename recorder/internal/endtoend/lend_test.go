@@ -298,7 +298,7 @@ func orderOf(text, edges string) (order, error) {
 	for i, a := range accesses {
 		o[i] = make([]bool, len(accesses))
 		for j, b := range accesses[i+1:] {
-			// b knows a begin behind a, or stands behind it in one goroutine
+			// b knows a begin after a, or stands after it in one goroutine
 			o[i][i+1+j] = b.knows[a.goroutine] > a.event
 		}
 	}

@@ -87,7 +87,7 @@ ok  	example.com/service/bank	N [no tests to run]`, 0},
 	}
 }
 
-// TestFlagsOfTests: flags stand in front of the packages and behind them, and reach the tests
+// TestFlagsOfTests: flags stand before the packages and after them, and reach the tests
 // of each.
 func TestFlagsOfTests(t *testing.T) {
 	t.Parallel()
@@ -112,7 +112,7 @@ func TestListsOfTests(t *testing.T) {
 	}
 }
 
-// TestExplained: behind the report stands what each of the two last synchronized by, and how
+// TestExplained: after the report stands what each of the two last synchronized by, and how
 // the race is drawn; the trace is where that says.
 func TestExplained(t *testing.T) {
 	t.Parallel()

@@ -288,7 +288,7 @@ var clean = []func(*maker){
 		m.spawn(m.some(m.either), m.some(m.either), "done.Done()")
 		m.spawn("done.Wait()", m.some(m.either))
 	},
-	func(m *maker) { // closed, and both only read behind it
+	func(m *maker) { // closed, and both only read after it
 		m.write("c := make(chan int)")
 		m.spawn(m.some(m.either), m.writes(), "close(c)", m.some(m.reads))
 		m.spawn("<-c", m.some(m.reads))
@@ -317,12 +317,12 @@ var racing = []func(*maker){
 		m.spawn(m.some(m.either), m.some(m.writes))
 		m.spawn(m.some(m.either))
 	},
-	func(m *maker) { // written behind what orders
+	func(m *maker) { // written after what orders
 		m.write("c := make(chan int)")
 		m.spawn(m.some(m.either), "close(c)", m.some(m.writes))
 		m.spawn("<-c", m.some(m.either))
 	},
-	func(m *maker) { // read behind what orders
+	func(m *maker) { // read after what orders
 		m.write("c := make(chan int)")
 		m.spawn(m.some(m.either), "close(c)", m.some(m.reads))
 		m.spawn("<-c", m.some(m.writes))

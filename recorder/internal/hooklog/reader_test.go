@@ -146,7 +146,7 @@ func TestReadStops(t *testing.T) {
 	}
 }
 
-// An access of many words counts as so many, and what is behind it in its chunk is read next.
+// An access of many words counts as so many, and what is after it in its chunk is read next.
 func TestReadStopsWithinAChunk(t *testing.T) {
 	w, r := newLog(t, 64, true)
 	g, other := w.Goroutine(1), w.Goroutine(2)

@@ -30,7 +30,7 @@ var (
 var unused = []string{"racecall", "racecallbackthunk", "racefuncenterfp"}
 
 // patchRace turns race.go's calls of the race detector's object into calls of gorec's functions, rec_NAME, and drops what declares
-// the object and what gorec's files have. These come behind it: the overlay has no files that Go hasn't, since go vet, which go
+// the object and what gorec's files have. These come after it: the overlay has no files that Go hasn't, since go vet, which go
 // test runs, would look for them in the installed Go, up to Go 1.23.
 func patchRace(s *source, h *hooks) error {
 	for _, m := range racecall.FindAllStringSubmatch(s.text, -1) {

@@ -121,7 +121,7 @@ func racereadrangepc(addr unsafe.Pointer, sz, callpc, pc uintptr) {
 func abigen_sync_atomic_LoadInt32(addr *int32) (val int32)
 `
 
-// patchSmall patches a race.go as that of Go 1.19, without what comes behind it.
+// patchSmall patches a race.go as that of Go 1.19, without what comes after it.
 func patchSmall(t *testing.T, text string) (*source, error) {
 	t.Helper()
 	own, err := hooksFor(19)

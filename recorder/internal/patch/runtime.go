@@ -19,7 +19,7 @@ var runtimeFiles embed.FS
 
 // hooks are gorec's own files as a version of Go needs them.
 type hooks struct {
-	code     string // what comes behind the imports of its Go files, in their order
+	code     string // what comes after the imports of its Go files, in their order
 	assembly string
 	have     map[string]bool // its functions: those in Go, and in assembly as "sync∕atomic·AddInt32"
 }

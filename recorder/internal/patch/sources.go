@@ -12,7 +12,7 @@ type change struct {
 	rules    []rule
 	known    watch
 	special  func(*source, *hooks) error // what no rule says
-	more     string                      // comes behind it
+	more     string                      // comes after it
 	from, to int                         // the minor versions of Go that have it, as in a rule
 }
 

@@ -23,7 +23,7 @@ type Object struct {
 // Name is what an access is about.
 type Name struct {
 	Word  string // for a trace: Account_mu, xs_elem, p_at; or ""
-	Begin uint64 // the address of a package variable, or of the part of one that is one variable; it may be in front of the access
+	Begin uint64 // the address of a package variable, or of the part of one that is one variable; it may be before the access
 	rank  int    // of the names of several accesses to one variable the one with the most counts
 	isOwn bool   // it is that of a variable of the function
 }

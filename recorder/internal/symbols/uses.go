@@ -148,7 +148,7 @@ func (l *locator) results() {
 	}
 }
 
-// call lists what Go's own functions read and write behind their arguments.
+// call lists what Go's own functions read and write beyond their arguments.
 func (l *locator) call(n *ast.CallExpr) {
 	elements := func(i int, write bool) {
 		if i < len(n.Args) {

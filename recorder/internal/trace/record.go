@@ -110,7 +110,7 @@ var words = [...]string{
 	Release: "close", Acquire: "recvclosed",
 }
 
-// deeds say what an operation is of a goroutine's, in front of the name of the object.
+// deeds say what an operation is of a goroutine's, before the name of the object.
 var deeds = [...]string{
 	Send: "send on ", Receive: "receive from ", ReceiveClosed: "receive from the closed ", Close: "close of ",
 	Lock: "lock of ", TryLock: "trylock of ", ReadLock: "rlock of ", TryReadLock: "tryrlock of ",

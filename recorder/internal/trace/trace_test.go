@@ -125,7 +125,7 @@ func TestTooManyGoroutinesAreCutOff(t *testing.T) {
 }
 
 // TestTooManyValuesAreCutOff: a capacity of more than 65,535 is written as that; so that the
-// trace is no illegal one, it ends in front of the send that it has no room for.
+// trace is no illegal one, it ends before the send that it has no room for.
 func TestTooManyValuesAreCutOff(t *testing.T) {
 	for _, c := range []struct {
 		capacity uint32
@@ -279,7 +279,7 @@ func TestNames(t *testing.T) {
 	}
 }
 
-// What code without the recorder starts for a goroutine may begin behind its exit.
+// What code without the recorder starts for a goroutine may begin after its exit.
 func TestAStartBehindAnExit(t *testing.T) {
 	text, _ := written(t, of([]Record{
 		{Op: Go, Other: 1, Site: 1},

@@ -81,7 +81,7 @@ func (t *Translator) number(at uint32) uint32 {
 }
 
 // begin has a goroutine begin that does something of the program's. If its go was in an earlier segment, or was the runtime's for
-// itself, or isn't known, main starts it at the begin of the segment, so nothing comes before it.
+// itself, or isn't known, main starts it at the beginning of the segment, so nothing comes before it.
 func (t *Translator) begin(a *actor) {
 	a.segment = t.attempt
 	if a.isMain() {

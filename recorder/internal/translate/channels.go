@@ -10,7 +10,7 @@ type channel struct {
 	id             uint32
 	capacity       uint32
 	closed         bool
-	sent, received uint64         // with what was there at the begin
+	sent, received uint64         // with what was there at the beginning
 	buffer         []waitingValue // from head on
 	head           int
 }
@@ -18,7 +18,7 @@ type channel struct {
 // waitingValue is one in a channel's buffer.
 type waitingValue struct {
 	element
-	begin uint32 // of one that was there at the begin: one more than where the state has it
+	begin uint32 // of one that was there at the beginning: one more than where the state has it
 }
 
 // waiting is how many values a channel's buffer has.
@@ -116,7 +116,7 @@ func (t *Translator) send(s *step, c *channel, r *trace.Record) {
 	c.buffer = append(c.buffer, waitingValue{element: e})
 }
 
-// receive takes the first value of a buffer: no hook tells it of an empty one. What was there at the begin is known from this.
+// receive takes the first value of a buffer: no hook tells it of an empty one. What was there at the beginning is known from this.
 func (t *Translator) receive(s *step, c *channel, r *trace.Record) {
 	if c.waiting() == 0 {
 		return

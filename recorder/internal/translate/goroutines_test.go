@@ -144,7 +144,7 @@ write main n0 2 main.go:20
 	}
 }
 
-// What a goroutine accessed before a cut it may do again behind it without a word, as long as it does no step: so the accesses
+// What a goroutine accessed before a cut it may do again after it without a word, as long as it does no step: so the accesses
 // count there too.
 func TestAccessesGoOn(t *testing.T) {
 	p := newProgram(t, Options{})

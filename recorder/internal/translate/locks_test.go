@@ -39,7 +39,7 @@ trylock g1 mu_3 main.go:9
 `)
 }
 
-// Readers that held a lock at the begin are found by unlocks, also among others, but none behind a lock for writing.
+// Readers that held a lock at the beginning are found by unlocks, also among others, but none under a lock for writing.
 func TestReadersAtTheBegin(t *testing.T) {
 	p := newProgram(t, Options{})
 	p.names[0x1000] = "rw"
@@ -102,7 +102,7 @@ oncedone g1 once_2 main.go:4
 `)
 }
 
-// Onces that a goroutine was in at the begin, one within another, end in the right order.
+// Onces that a goroutine was in at the beginning, one within another, end in the right order.
 func TestOncesWithinOthers(t *testing.T) {
 	p := newProgram(t, Options{})
 	p.names[0x1000], p.names[0x1100] = "outer", "inner"

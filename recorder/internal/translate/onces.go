@@ -31,7 +31,7 @@ func (t *Translator) once(s *step) {
 	}
 }
 
-// endOnce is the end of a once's function, which was under way at the begin of the segment if it didn't begin in it.
+// endOnce is the end of a once's function, which was under way at the beginning of the segment if it didn't begin in it.
 func (t *Translator) endOnce(o *once, s *step) {
 	if o == nil {
 		o = t.newOnce(s)
@@ -45,7 +45,7 @@ func (t *Translator) endOnce(o *once, s *step) {
 	}
 }
 
-// doneOnce is the return of a Do. The function had ended at the begin of the segment if it isn't known in it.
+// doneOnce is the return of a Do. The function had ended at the beginning of the segment if it isn't known in it.
 func (t *Translator) doneOnce(o *once, s *step) {
 	if o == nil {
 		o = t.newOnce(s)

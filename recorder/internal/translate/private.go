@@ -22,14 +22,14 @@ var privacies = []privacy{
 	// Sorting the keys of a map that is printed is a part of that.
 	{pkg: "internal/fmtsort", shares: true},
 
-	// The functions of the package share a source behind a lock, which is found by an atomic pointer. Sources of the program's
+	// The functions of the package share a source under a lock, which is found by an atomic pointer. Sources of the program's
 	// own have no lock, so their memory counts.
 	{pkg: "math/rand", functions: []string{"(*lockedSource)", "(*runtimeSource)", "globalRand", "Seed"}, helped: true, shares: true},
 
-	// What a test reads of its environment is noted behind an atomic pointer and a lock.
+	// What a test reads of its environment is noted by an atomic pointer and a lock.
 	{pkg: "internal/testlog"},
 
-	// Tests that run beside one another wait for a place behind a lock (the channel by which one gets it counts), and
+	// Tests that run beside one another wait for a place under a lock (the channel by which one gets it counts), and
 	// for one another to write their names; all note in one map that they run.
 	{pkg: "testing", functions: []string{"(*testContext)", "(*testState)", "(*chattyPrinter)", "tRunner", "(*T).Parallel"}},
 
@@ -48,7 +48,7 @@ var privacies = []privacy{
 	{pkg: "internal/godebug"},
 	{pkg: "internal/godebugs"},
 
-	// The environment is copied once, and is read and written behind a lock.
+	// The environment is copied once, and is read and written under a lock.
 	{pkg: "syscall", functions: []string{
 		"Getenv", "Setenv", "Unsetenv", "Clearenv", "Environ", "copyenv", "runtimeSetenv", "runtimeUnsetenv",
 	}},

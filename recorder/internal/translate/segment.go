@@ -26,7 +26,7 @@ type segmentState struct {
 
 	objects  []trace.Object
 	unnamed  []unnamed
-	state    []trace.Record // what stood at the begin, as main makes it
+	state    []trace.Record // what stood at the beginning, as main makes it
 	starts   []trace.Record // of goroutines that were there
 	begun    []trace.Record // onces that were under way, the innermost last
 	out      []trace.Record // what happened; Nones have no place
@@ -65,7 +65,7 @@ func (t *Translator) objectAt(o trace.Object, kind Kind, site uint32, addr uint6
 // put appends a record of a step.
 func (s *segmentState) put(r trace.Record) { s.out = append(withRoom(s.out), r) }
 
-// bring appends something that main does at the begin to an object.
+// bring appends something that main does at the beginning to an object.
 func (s *segmentState) bring(id uint32, op trace.Op, value uint64) {
 	s.state = append(s.state, trace.Record{Op: op, Object: id, Site: s.objects[id].Site, Value: value})
 }
@@ -127,7 +127,7 @@ func (t *Translator) Segment(ended bool) *Segment {
 	return s
 }
 
-// fitting is how many steps have all their records in the trace. Where it has no whole step, what stood at the begin is too much
+// fitting is how many steps have all their records in the trace. Where it has no whole step, what stood at the beginning is too much
 // for it already.
 func (t *Translator) fitting(s *Segment) int {
 	end := s.Trace.End()
@@ -166,7 +166,7 @@ func (t *Translator) try(n int, all bool) *Segment {
 	return &Segment{Number: int(t.segments), Last: all, Trace: trace.New(of, t.Trace)}
 }
 
-// withFront puts before what happened what stood at the begin.
+// withFront puts before what happened what stood at the beginning.
 func (t *Translator) withFront() []trace.Record {
 	for i := len(t.begun) - 1; i >= 0; i-- {
 		t.starts = append(t.starts, t.begun[i])

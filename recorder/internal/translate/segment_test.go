@@ -10,7 +10,7 @@ import (
 	"gorace.local/recorder/internal/trace"
 )
 
-// A lock and a race of two goroutines: what each does is behind its go.
+// A lock and a race of two goroutines: what each does is after its go.
 func TestAProgram(t *testing.T) {
 	p := newProgram(t, Options{})
 	p.names[0x1000], p.names[0x2000], p.names[0x3000] = "mu", "n", "m"

@@ -33,7 +33,7 @@ type Stacks interface {
 // Options are what a Translator is asked for.
 type Options struct {
 	Base    string // the folder that places are told from
-	GOROOT  string // what stands in front of src/ in the files of Go's own source
+	GOROOT  string // what stands before src/ in the files of Go's own source
 	Records int    // about so many has a segment, 0 for DefaultRecords
 	InTurn  bool   // there is only one place for parallel tests
 	Namer   Namer  // nil: names are those of kinds

@@ -46,7 +46,7 @@ var rec struct {
 	boot    uintptr // the context of what starts the first goroutine
 }
 
-// recData is how far behind twice its address the cell of data is.
+// recData is how far past twice its address the cell of data is.
 var recData uintptr
 
 // recLists are under their lock.
@@ -148,13 +148,13 @@ type recThread struct {
 	places                    [1 << recPlaceBits]recPlace // of steps
 }
 
-const recThreadSize = 1 << 16 // with the shadow stack behind it
+const recThreadSize = 1 << 16 // with the shadow stack after it
 
 const recMostThreads = 1 << 20
 
 // The heap of a program with hooks is where the race detector wants it: from 0xc000000000 to 0xe000000000. At twice an address
 // stands its cell, of 16 bytes for 8 of memory, and at a quarter of it the type of an object, of 4 bytes for 16. The types of
-// objects that begin in the middle of 16 bytes stand behind all others.
+// objects that begin in the middle of 16 bytes stand after all others.
 const (
 	recHeap     = 6 << recHeapBits
 	recHeapBits = 37
@@ -163,7 +163,7 @@ const (
 	recAgain  = 1 << 29 // in owner, beside the number
 	recLocked = 1<<32 - 1
 
-	// Of a heap object's base: its type's offset among the types, how far behind it the object begins, and in which segment
+	// Of a heap object's base: its type's offset among the types, how far past it the object begins, and in which segment
 	// it was told.
 	recTypeOf       = 1<<24 - 1 // times 8
 	recPadShift     = 24

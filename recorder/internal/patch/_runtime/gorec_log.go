@@ -76,7 +76,7 @@ func rec_init(gctx, pctx, _, _ uintptr) {
 // recOwnName is the name of the log of a program that another recorded one has started.
 var recOwnName [4096]byte
 
-// recOpenLog maps the log of that name, or, where another process writes that, one with this process's number behind it.
+// recOpenLog maps the log of that name, or, where another process writes that, one with this process's number after it.
 func recOpenLog(name *byte) bool {
 	pid := uint32(recSyscall(recSysPid, 0, 0, 0, 0, 0, 0))
 	taken, ok := recTryLog(name, pid, recOpenFlags)

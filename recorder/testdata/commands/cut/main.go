@@ -1,6 +1,6 @@
 package main
 
-// What is behind the 65,536th value that waits isn't in the trace, and with it the race on n.
+// What is after the 65,536th value that waits isn't in the trace, and with it the race on n.
 func main() {
 	n := 0
 	c := make(chan int, 100_000)

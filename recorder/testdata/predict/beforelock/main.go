@@ -1,6 +1,6 @@
 // hides: total
 
-// One writes before its critical section, the other behind its own.
+// One writes before its critical section, the other after its own.
 package main
 
 import (

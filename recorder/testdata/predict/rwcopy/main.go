@@ -1,6 +1,6 @@
 // hides: cached
 
-// Two write behind a lock for reading; the lock of something else orders them.
+// Two write under a lock for reading; the lock of something else orders them.
 package main
 
 import (

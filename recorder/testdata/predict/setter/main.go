@@ -1,6 +1,6 @@
 // hides: box_value
 
-// Set writes before it locks, get reads behind its lock.
+// Set writes before it locks, get reads after its lock.
 package main
 
 import (

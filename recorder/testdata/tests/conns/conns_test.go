@@ -621,7 +621,7 @@ func TestSubGroup(t *testing.T) {
 	}
 }
 
-// testing.Benchmark with RunParallel: what the goroutines did is there behind it.
+// testing.Benchmark with RunParallel: what the goroutines did is there after it.
 func TestRunParallel(t *testing.T) {
 	var mu sync.Mutex
 	n := 0

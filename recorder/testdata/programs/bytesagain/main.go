@@ -1,4 +1,4 @@
-// races: b_elem_2
+// races: b_elem|b_elem_2
 // why: two goroutines read both bytes of a word, one after the other, and the second reads beside a write of one
 
 package main

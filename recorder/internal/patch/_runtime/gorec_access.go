@@ -60,7 +60,7 @@ func recSingle(how uintptr) {
 	pc, depth := getcallerpc(), gp.stack.hi-getcallersp()
 	f := (*recFrame)(unsafe.Pointer(t.top))
 	key := recMix(f.hash, pc) | 1
-	m := &t.moments[key>>(64-recMomentBits)]
+	m := recRemembered(t, key)
 	if m.key == key && m.stamp == t.stamp && f.known != 0 && f.depth <= uint32(depth) && recHead().Segment == t.segment &&
 		(recExtendsOwn(t, c, mask, m.run.id, write) || recExtends(t, &m.run, c, addr&^7, mask, write)) {
 		return
@@ -200,7 +200,8 @@ func recTellSoon(t *recThread, m *recMoment, word uintptr, mask uint8, gen uint1
 	recJoin(t, &m.run, word, mask, gen, m.run.id)
 	if !m.listed {
 		m.listed = true
-		t.list[t.pending%recMomentCache] = uint8(m.key >> (64 - recMomentBits))
+		at := uintptr(unsafe.Pointer(m)) - uintptr(unsafe.Pointer(&t.moments))
+		t.list[t.pending%recMomentCache] = uint8(at / unsafe.Sizeof(*m))
 		t.pending++
 	}
 }

@@ -405,9 +405,14 @@ func recMomentOf(t *recThread, in *recInner) *recMoment {
 	if h.Segment != t.segment {
 		recBegin(t, h.Segment)
 	}
-	m := &t.moments[in.key>>(64-recMomentBits)]
-	if m.key == in.key && m.stamp == t.stamp {
-		return m
+	m := recRemembered(t, in.key)
+	if m.stamp == t.stamp {
+		if m.key == in.key {
+			return m
+		}
+		if other := recNeighbour(t, in.key); other.stamp != t.stamp {
+			m = other // so that two places of a loop don't take one slot in turn
+		}
 	}
 	recTellRun(t, &m.run)
 	if m.key != in.key {
@@ -426,6 +431,19 @@ func recMomentOf(t *recThread, in *recInner) *recMoment {
 	m.stamp, m.run.id = t.stamp, id
 	return m
 }
+
+// recRemembered is where the last moment at a stack is remembered, or may be: each stack has two slots.
+func recRemembered(t *recThread, key uint64) *recMoment {
+	m := &t.moments[key>>(64-recMomentBits)]
+	if m.key != key {
+		if other := recNeighbour(t, key); other.key == key {
+			return other
+		}
+	}
+	return m
+}
+
+func recNeighbour(t *recThread, key uint64) *recMoment { return &t.moments[key>>(64-recMomentBits)^1] }
 
 // recBegin says that a goroutine comes to a segment.
 func recBegin(t *recThread, segment uint32) {

@@ -7,6 +7,7 @@ import (
 	"path/filepath"
 	"runtime/debug"
 	"sync"
+	"sync/atomic"
 	"time"
 
 	"gorace.local/recorder/internal/hooklog"
@@ -148,8 +149,8 @@ func (r *run) read() (records int, err error) {
 	r.mu.Lock()
 	defer r.mu.Unlock()
 	if r.translator == nil {
-		if r.reader.Taken() == 0 {
-			return 0, nil
+		if r.reader.Taken() == 0 || atomic.LoadUint64(&r.reader.Header().Text) == 0 {
+			return 0, nil // places aren't known before the program has said where it lies
 		}
 		if err := r.prepare(); err != nil {
 			return 0, err

@@ -7,14 +7,15 @@ import (
 	"net/http"
 	"net/http/httptest"
 	"sync"
-	"time"
 )
 
 func main() {
 	hits := 0
-	both := make(chan bool)
+	var both sync.WaitGroup
+	both.Add(2)
 	server := httptest.NewServer(http.HandlerFunc(func(w http.ResponseWriter, r *http.Request) {
-		both <- true // two requests are handled at once
+		both.Done()
+		both.Wait() // two requests are handled at once
 		hits++
 	}))
 	defer server.Close()
@@ -29,9 +30,6 @@ func main() {
 			}
 		}()
 	}
-	time.Sleep(50 * time.Millisecond)
-	<-both
-	<-both
 	wg.Wait()
 	fmt.Println(hits > 0)
 }
